@@ -1,0 +1,3 @@
+pub mod Range
+pub mod Slots
+pub mod Written

@@ -1,0 +1,200 @@
+-- The laws of `Written`: with no place written; one place more; one run of writes after another; and the whole as a list. Assumes nothing.
+use mathlib.Core.Path.{_≡_, refl, sym, ap, _∙_, subst}
+use mathlib.Core.Logic.{_⊎_, inl, inr, ⊎-elim}
+use mathlib.Core.List.{List, _++_, append-nil}
+use Prim.Native.Nat.{ℕ, zero, suc, _+_, _-_, _*_, _/_, _%_, _<_, _≤_}
+use native.Mathlib.Omega.{arith}
+use native.Mathlib.Decide.{ℕ-discrete, decLt}
+use native.Mathlib.Nat.{add-assoc, zero-add}
+use lib.ListN.{length, take, drop, getD, set, length-set, length-drop, length-append, List·getD-append}
+use lib.Seq.{drop-length, length-take-le, getD-set-same, getD-set-other, ext-getD, getD-append-add, getD-take, getD-drop}
+use Rattle.laws.proofs.Slots.{slot-div, slot-mod, slot-is}
+use Rattle.laws.specs.Written.{Written, At, tabulate, rewritten}
+
+module _ {A : Type 0} {d : A} {base : ℕ} where
+  pub none : {P : ℕ → Type 0} {f : ℕ → A} {w : List A} → ((s : ℕ) → P s → ⊥) → Written d base P f w w
+  none h = record { long = refl; at = λ s p. absurd (h s p); off = λ i k. refl }
+
+  -- the same places, by another name
+  pub same : {P Q : ℕ → Type 0} {f g : ℕ → A} {w w′ : List A} → Written d base P f w w′
+      → ((s : ℕ) → P s → Q s) → ((s : ℕ) → Q s → P s) → ((s : ℕ) → Q s → f s ≡ g s) → Written d base Q g w w′
+  same W to back e =
+      record { long = W .long; at = λ s q. W .at s (back s q) ∙ e s q; off = λ i h. W .off i (λ s p. h s (to s p)) }
+
+  -- one store more, at the slot k
+  pub store : {P Q : ℕ → Type 0} {f : ℕ → A} {w w′ : List A} (k : ℕ) (v : A) → Written d base P f w w′
+      → base + k < length w → v ≡ f k → Q k → ((s : ℕ) → P s → Q s) → ((s : ℕ) → Q s → (s ≡ k → ⊥) → P s)
+      → Written d base Q f w (set w′ (base + k) v)
+  store {P} {Q} {f} {w} {w′} k v W inside e here to back =
+      record {
+        long = length-set w′ (base + k) v ∙ W .long;
+        at = λ s q. at-place s q (ℕ-discrete s k);
+        off = λ i h.
+            getD-set-other w′ (base + k) i v d (λ p. h k here p) ∙ W .off i (λ s p. h s (to s p));
+      }
+    where
+      at-place : (s : ℕ) → Q s → Dec (s ≡ k) → getD (set w′ (base + k) v) (base + s) d ≡ f s
+      at-place s q (yes p) =
+          ap (λ (j : ℕ). getD (set w′ (base + k) v) (base + j) d) p
+          ∙ getD-set-same w′ (base + k) v d (omega (arith, W .long)) ∙ e ∙ ap f (sym p)
+      at-place s q (no n) =
+          getD-set-other w′ (base + k) (base + s) v d (λ p. n (omega (arith, p))) ∙ W .at s (back s q n)
+
+  -- one run of writes, and then another, whose function says the same of the slice that the first left
+  pub after : {P Q R : ℕ → Type 0} {f g : ℕ → A} {w w′ w″ : List A} → Written d base P f w w′ → Written d base Q g w′ w″
+      → ((s : ℕ) → P s → R s) → ((s : ℕ) → Q s → R s) → ((s : ℕ) → R s → (P s × (Q s → ⊥)) ⊎ Q s)
+      → ((s : ℕ) → Q s → g s ≡ f s) → Written d base R f w w″
+  after {P} {Q} {R} {f} {g} {w} {w′} {w″} W U left right back e =
+      record {
+        long = U .long ∙ W .long;
+        at = λ s r. ⊎-elim (λ h. U .off (base + s) (λ j q p. h .1 (subst Q (omega (arith, p)) q)) ∙ W .at s (h .0)) (λ q. U .at s q ∙ e s q) (back s r);
+        off = λ i h. U .off i (λ s q. h s (right s q)) ∙ W .off i (λ s p. h s (left s p));
+      }
+
+  -- a place below the region, or past it, is as it was
+  pub low : {P : ℕ → Type 0} {f : ℕ → A} {w w′ : List A} → Written d base P f w w′ → (i : ℕ) → i < base → getD w′ i d ≡ getD w i d
+  low W i h = W .off i (λ s p e. omega arith)
+
+  pub high : {P : ℕ → Type 0} {f : ℕ → A} {w w′ : List A} (n : ℕ) → Written d base P f w w′ → ((s : ℕ) → P s → s < n)
+      → (i : ℕ) → base + n ≤ i → getD w′ i d ≡ getD w i d
+  high n W b i h = W .off i (λ s p e. omega (arith, b s p))
+
+-- A loop that goes by a key of the slots: before the turn k the slots with P whose key is below k are written.
+pub record Upto (P : ℕ → Type 0) (key : ℕ → ℕ) (k s : ℕ) : Type 0 where
+  pub among : P s
+  pub below : key s < k
+
+module _ {A : Type 0} {d : A} {base : ℕ} {P : ℕ → Type 0} {key : ℕ → ℕ} {f : ℕ → A} {w : List A} where
+  pub upto-none : Written d base (Upto P key 0) f w w
+  upto-none = none (λ s p. omega (arith, p .below))
+
+  -- the turn k writes its slots, by a function that says there what f says
+  pub upto-run : {k : ℕ} {g : ℕ → A} {w′ w″ : List A} → Written d base (Upto P key k) f w w′ → Written d base (At P key k) g w′ w″
+      → ((s : ℕ) → P s → g s ≡ f s) → Written d base (Upto P key (k + 1)) f w w″
+  upto-run {k} W U e =
+      after W U
+      (λ s p. record { among = p .among; below = omega (arith, p .below) })
+      (λ s q. record { among = q .among; below = omega (arith, q .has) })
+      (λ s r. split s r (ℕ-discrete (key s) k))
+      (λ s q. e s (q .among))
+    where
+      split : (s : ℕ) → Upto P key (k + 1) s → Dec (key s ≡ k) → (Upto P key k s × (At P key k s → ⊥)) ⊎ At P key k s
+      split s r (yes h) = inr (record { among = r .among; has = h })
+      split s r (no h) = inl (record { among = r .among; below = omega (arith, r .below) }, λ q. h (q .has))
+
+  -- the turn k has no slot
+  pub upto-skip : {k : ℕ} {w′ : List A} → Written d base (Upto P key k) f w w′ → ((s : ℕ) → At P key k s → ⊥)
+      → Written d base (Upto P key (k + 1)) f w w′
+  upto-skip W h = upto-run W (none h) (λ s p. refl)
+
+  -- the turn k has the slot j alone, and stores there
+  pub upto-store : {k : ℕ} {w′ : List A} (j : ℕ) (v : A) → Written d base (Upto P key k) f w w′ → At P key k j
+      → ((s : ℕ) → At P key k s → s ≡ j) → base + j < length w → v ≡ f j
+      → Written d base (Upto P key (k + 1)) f w (set w′ (base + j) v)
+  upto-store {k} j v W here only inside e =
+      store j v W inside e
+      (record { among = here .among; below = omega (arith, here .has) })
+      (λ s p. record { among = p .among; below = omega (arith, p .below) })
+      (λ s q n. earlier s q n (ℕ-discrete (key s) k))
+    where
+      earlier : (s : ℕ) → Upto P key (k + 1) s → (s ≡ j → ⊥) → Dec (key s ≡ k) → Upto P key k s
+      earlier s q n (yes h) = absurd (n (only s (record { among = q .among; has = h })))
+      earlier s q n (no h) = record { among = q .among; below = omega (arith, q .below) }
+
+  -- the keys are all passed
+  pub upto-all : {k : ℕ} {w′ : List A} → Written d base (Upto P key k) f w w′ → ((s : ℕ) → P s → key s < k) → Written d base P f w w′
+  upto-all W h = same W (λ s p. p .among) (λ s q. record { among = q; below = h s q }) (λ s q. refl)
+
+-- a turn k over all slots stores at the slot k
+module _ {A : Type 0} {d : A} {base : ℕ} {P : ℕ → Type 0} {f : ℕ → A} {w w′ : List A} {k : ℕ} where
+  pub upto-next : (v : A) → Written d base (Upto P (λ s. s) k) f w w′ → P k → base + k < length w → v ≡ f k
+      → Written d base (Upto P (λ s. s) (k + 1)) f w (set w′ (base + k) v)
+  upto-next v W p inside e = upto-store k v W (record { among = p; has = refl }) (λ s q. q .has) inside e
+
+-- the same from the front of the list
+module _ {A : Type 0} {d : A} {P : ℕ → Type 0} {f : ℕ → A} {w w′ : List A} {k : ℕ} where
+  pub upto-front : (v : A) → Written d 0 (Upto P (λ s. s) k) f w w′ → P k → k < length w → v ≡ f k
+      → Written d 0 (Upto P (λ s. s) (k + 1)) f w (set w′ k v)
+  upto-front v W p inside e =
+      subst (λ (j : ℕ). Written d 0 (Upto P (λ s. s) (k + 1)) f w (set w′ j v)) (zero-add k) (upto-next v W p (rw zero-add inside) e)
+
+-- a turn t over the block b of z slots stores at the slot b * z + t
+module _ {A : Type 0} {d : A} {base : ℕ} {P : ℕ → Type 0} {f : ℕ → A} {w w′ : List A} (z b t : ℕ) where
+  pub upto-block : (v : A) → Written d base (Upto (At P (λ s. s / z) b) (λ s. s % z) t) f w w′ → t < z → P (b * z + t)
+      → base + (b * z + t) < length w → v ≡ f (b * z + t)
+      → Written d base (Upto (At P (λ s. s / z) b) (λ s. s % z) (t + 1)) f w (set w′ (base + (b * z + t)) v)
+  upto-block v W k p inside e =
+      upto-store (b * z + t) v W
+      (record { among = record { among = p; has = slot-div b z t k }; has = slot-mod b z t k })
+      (λ s q. slot-is s z b t (q .among .has) (q .has))
+      inside
+      e
+
+pub length-tabulate : {A : Type 0} (f : ℕ → A) (n : ℕ) → length (tabulate f n) ≡ n
+unfolding tabulate
+length-tabulate f zero = refl
+length-tabulate f (suc n) = ap suc (length-tabulate (λ s. f (suc s)) n)
+
+pub getD-tabulate : {A : Type 0} (d : A) (f : ℕ → A) (n s : ℕ) → s < n → getD (tabulate f n) s d ≡ f s
+unfolding tabulate
+getD-tabulate d f zero s h = absurd (omega arith)
+getD-tabulate d f (suc n) zero h = refl
+getD-tabulate d f (suc n) (suc s) h = getD-tabulate d (λ j. f (suc j)) n s (omega arith)
+
+past : {A : Type 0} (d : A) (xs ys : List A) (k j : ℕ) → length xs ≡ k → getD (xs ++ ys) (k + j) d ≡ getD ys j d
+past d xs ys k j e = ap (λ (n : ℕ). getD (xs ++ ys) (n + j) d) (sym e) ∙ getD-append-add xs ys j d
+
+-- what stands where in a list that is rewritten at the slots below n
+module _ {A : Type 0} (d : A) (base n : ℕ) (f : ℕ → A) (w : List A) (fits : base + n ≤ length w) where
+  head : length (take base w) ≡ base
+  head = length-take-le base w (omega (arith, fits))
+
+  pub length-rewritten : length (rewritten base n f w) ≡ length w
+  unfolding rewritten
+  length-rewritten = simp (length-append, length-tabulate, length-drop) (omega (arith, head, fits))
+
+  pub low-rewritten : (i : ℕ) → i < base → getD (rewritten base n f w) i d ≡ getD w i d
+  unfolding rewritten
+  low-rewritten i h =
+      List·getD-append (take base w) (tabulate f n ++ drop (base + n) w) d i (omega (arith, head)) ∙ getD-take base w i d h
+
+  pub at-rewritten : (s : ℕ) → s < n → getD (rewritten base n f w) (base + s) d ≡ f s
+  unfolding rewritten
+  at-rewritten s h =
+      past d (take base w) (tabulate f n ++ drop (base + n) w) base s head
+      ∙ List·getD-append (tabulate f n) (drop (base + n) w) d s (omega (arith, length-tabulate f n))
+      ∙ getD-tabulate d f n s h
+
+  pub high-rewritten : (j : ℕ) → getD (rewritten base n f w) (base + (n + j)) d ≡ getD w (base + (n + j)) d
+  unfolding rewritten
+  high-rewritten j =
+      past d (take base w) (tabulate f n ++ drop (base + n) w) base (n + j) head
+      ∙ past d (tabulate f n) (drop (base + n) w) n j (length-tabulate f n) ∙ getD-drop (base + n) w j d
+      ∙ ap (λ (k : ℕ). getD w k d) (add-assoc base n j)
+
+  -- writes at every slot below n give the list rewritten there
+  pub whole : {w′ : List A} → Written d base (λ s. s < n) f w w′ → w′ ≡ rewritten base n f w
+  whole {w′} W = ext-getD d w′ (rewritten base n f w) (W .long ∙ sym length-rewritten) (λ i h. at i (decLt i base) (decLt i (base + n)))
+    where
+      at : (i : ℕ) → Dec (i < base) → Dec (i < base + n) → getD w′ i d ≡ getD (rewritten base n f w) i d
+      at i (yes h) d = low W i h ∙ sym (low-rewritten i h)
+      at i (no h) (yes k) = subst (λ (j : ℕ). getD w′ j d ≡ getD (rewritten base n f w) j d) (omega arith)
+          (W .at (i - base) (omega arith) ∙ sym (at-rewritten (i - base) (omega arith)))
+      at i (no h) (no k) = subst (λ (j : ℕ). getD w′ j d ≡ getD (rewritten base n f w) j d) (omega arith)
+          (W .off (base + (n + (i - (base + n)))) (λ s p e. omega arith) ∙ sym (high-rewritten (i - (base + n))))
+
+-- a list that is written whole
+pub rewritten-all : {A : Type 0} (f : ℕ → A) (w : List A) → rewritten 0 (length w) f w ≡ tabulate f (length w)
+unfolding rewritten
+rewritten-all f w = rw (zero-add, drop-length, append-nil)
+
+-- a list that is written from the front, and held f already past what is written, is f all through
+pub filled : {A : Type 0} (d : A) (f : ℕ → A) (w : List A) {w′ : List A} (k : ℕ) → Written d 0 (Upto (λ s. s < length w) (λ s. s) k) f w w′
+    → ((s : ℕ) → k ≤ s → s < length w → getD w s d ≡ f s) → w′ ≡ tabulate f (length w)
+filled d f w {w′} k W rest =
+    ext-getD d w′ (tabulate f (length w)) (W .long ∙ sym (length-tabulate f (length w)))
+    (λ i h. at i (omega (arith, h, W .long)) (decLt i k) ∙ sym (getD-tabulate d f (length w) i (omega (arith, h, W .long))))
+  where
+    at : (i : ℕ) → i < length w → Dec (i < k) → getD w′ i d ≡ f i
+    at i h (yes b) = rw zero-add at (W .at i (record { among = h; below = b }))
+    at i h (no b) = W .off i (λ s p e. b (omega (arith, p .below, zero-add s))) ∙ rest i (omega arith) h
