@@ -1,18 +1,10 @@
 // Prints the 18 base graphs, through the table crate's calls: a line with the family, the rate, n_b, k_b and m_b, then a
 // line for each information column with its three rows and shifts. The file stdout was written by the oracle.
-use libc::STDOUT_FILENO;
 use tables::BaseGraph;
 ghost use mathlib.Core.Path.{_≡_};
 ghost use mathlib.Core.Bool.{cond};
 ghost use Prim.Native.Nat.{_%_, _≤_};
 ghost use lib.Dec.{eqb};
-
-// Prints a number and the byte after it.
-fn print_number(n: u64, after: u8) {
-    io::print_decimal(STDOUT_FILENO, n);
-    let end = [after];
-    io::write_all(STDOUT_FILENO, &end);
-}
 
 // What stands after pair b: a line ends with a column's third.
 fn after_pair(b: usize) -> u8
@@ -22,8 +14,8 @@ fn after_pair(b: usize) -> u8
 }
 
 fn print_pair(row: u8, shift: u16, after: u8) {
-    print_number(row as u64, 32);
-    print_number(shift as u64, after);
+    text::print_number(row as usize, 32);
+    text::print_number(shift as usize, after);
 }
 
 fn print_columns(g: BaseGraph)
@@ -39,11 +31,11 @@ fn print_columns(g: BaseGraph)
 
 fn print_graph(rate: usize, family: usize) {
     let g = tables::graph_of(rate, family);
-    print_number(family as u64, 32);
-    print_number(rate as u64, 32);
-    print_number(g.shape.n_b as u64, 32);
-    print_number(g.shape.k_b as u64, 32);
-    print_number(g.shape.m_b as u64, 10);
+    text::print_number(family, 32);
+    text::print_number(rate, 32);
+    text::print_number(g.shape.n_b, 32);
+    text::print_number(g.shape.k_b, 32);
+    text::print_number(g.shape.m_b, 10);
     print_columns(g);
 }
 

@@ -1,3 +1,7 @@
+-- The laws that the crates share. Assumes nothing.
 pub mod Range
+pub mod Parity
 pub mod Slots
 pub mod Written
+pub mod Collect
+pub mod First

@@ -34,11 +34,9 @@ module _ {A : Type 0} {d : A} {base : ℕ} where
       }
     where
       at-place : (s : ℕ) → Q s → Dec (s ≡ k) → getD (set w′ (base + k) v) (base + s) d ≡ f s
-      at-place s q (yes p) =
-          ap (λ (j : ℕ). getD (set w′ (base + k) v) (base + j) d) p
-          ∙ getD-set-same w′ (base + k) v d (omega (arith, W .long)) ∙ e ∙ ap f (sym p)
+      at-place s q (yes p) = rw p (getD-set-same w′ (base + k) v d (omega arith) ∙ e)
       at-place s q (no n) =
-          getD-set-other w′ (base + k) (base + s) v d (λ p. n (omega (arith, p))) ∙ W .at s (back s q n)
+          getD-set-other w′ (base + k) (base + s) v d (λ p. n (omega arith)) ∙ W .at s (back s q n)
 
   -- one run of writes, and then another, whose function says the same of the slice that the first left
   pub after : {P Q R : ℕ → Type 0} {f g : ℕ → A} {w w′ w″ : List A} → Written d base P f w w′ → Written d base Q g w′ w″
@@ -47,7 +45,7 @@ module _ {A : Type 0} {d : A} {base : ℕ} where
   after {P} {Q} {R} {f} {g} {w} {w′} {w″} W U left right back e =
       record {
         long = U .long ∙ W .long;
-        at = λ s r. ⊎-elim (λ h. U .off (base + s) (λ j q p. h .1 (subst Q (omega (arith, p)) q)) ∙ W .at s (h .0)) (λ q. U .at s q ∙ e s q) (back s r);
+        at = λ s r. ⊎-elim (λ h. U .off (base + s) (λ j q p. h .1 (subst Q (omega arith) q)) ∙ W .at s (h .0)) (λ q. U .at s q ∙ e s q) (back s r);
         off = λ i h. U .off i (λ s q. h s (right s q)) ∙ W .off i (λ s p. h s (left s p));
       }
 
@@ -66,21 +64,21 @@ pub record Upto (P : ℕ → Type 0) (key : ℕ → ℕ) (k s : ℕ) : Type 0 wh
 
 module _ {A : Type 0} {d : A} {base : ℕ} {P : ℕ → Type 0} {key : ℕ → ℕ} {f : ℕ → A} {w : List A} where
   pub upto-none : Written d base (Upto P key 0) f w w
-  upto-none = none (λ s p. omega (arith, p .below))
+  upto-none = none (λ s p. omega arith)
 
   -- the turn k writes its slots, by a function that says there what f says
   pub upto-run : {k : ℕ} {g : ℕ → A} {w′ w″ : List A} → Written d base (Upto P key k) f w w′ → Written d base (At P key k) g w′ w″
       → ((s : ℕ) → P s → g s ≡ f s) → Written d base (Upto P key (k + 1)) f w w″
   upto-run {k} W U e =
       after W U
-      (λ s p. record { among = p .among; below = omega (arith, p .below) })
-      (λ s q. record { among = q .among; below = omega (arith, q .has) })
+      (λ s p. record { among = p .among; below = omega arith })
+      (λ s q. record { among = q .among; below = omega arith })
       (λ s r. split s r (ℕ-discrete (key s) k))
       (λ s q. e s (q .among))
     where
       split : (s : ℕ) → Upto P key (k + 1) s → Dec (key s ≡ k) → (Upto P key k s × (At P key k s → ⊥)) ⊎ At P key k s
       split s r (yes h) = inr (record { among = r .among; has = h })
-      split s r (no h) = inl (record { among = r .among; below = omega (arith, r .below) }, λ q. h (q .has))
+      split s r (no h) = inl (record { among = r .among; below = omega arith }, λ q. h (q .has))
 
   -- the turn k has no slot
   pub upto-skip : {k : ℕ} {w′ : List A} → Written d base (Upto P key k) f w w′ → ((s : ℕ) → At P key k s → ⊥)
@@ -93,13 +91,13 @@ module _ {A : Type 0} {d : A} {base : ℕ} {P : ℕ → Type 0} {key : ℕ → �
       → Written d base (Upto P key (k + 1)) f w (set w′ (base + j) v)
   upto-store {k} j v W here only inside e =
       store j v W inside e
-      (record { among = here .among; below = omega (arith, here .has) })
-      (λ s p. record { among = p .among; below = omega (arith, p .below) })
+      (record { among = here .among; below = omega arith })
+      (λ s p. record { among = p .among; below = omega arith })
       (λ s q n. earlier s q n (ℕ-discrete (key s) k))
     where
       earlier : (s : ℕ) → Upto P key (k + 1) s → (s ≡ j → ⊥) → Dec (key s ≡ k) → Upto P key k s
       earlier s q n (yes h) = absurd (n (only s (record { among = q .among; has = h })))
-      earlier s q n (no h) = record { among = q .among; below = omega (arith, q .below) }
+      earlier s q n (no h) = record { among = q .among; below = omega arith }
 
   -- the keys are all passed
   pub upto-all : {k : ℕ} {w′ : List A} → Written d base (Upto P key k) f w w′ → ((s : ℕ) → P s → key s < k) → Written d base P f w w′
@@ -115,8 +113,7 @@ module _ {A : Type 0} {d : A} {base : ℕ} {P : ℕ → Type 0} {f : ℕ → A} 
 module _ {A : Type 0} {d : A} {P : ℕ → Type 0} {f : ℕ → A} {w w′ : List A} {k : ℕ} where
   pub upto-front : (v : A) → Written d 0 (Upto P (λ s. s) k) f w w′ → P k → k < length w → v ≡ f k
       → Written d 0 (Upto P (λ s. s) (k + 1)) f w (set w′ k v)
-  upto-front v W p inside e =
-      subst (λ (j : ℕ). Written d 0 (Upto P (λ s. s) (k + 1)) f w (set w′ j v)) (zero-add k) (upto-next v W p (rw zero-add inside) e)
+  upto-front v W p inside e = rw zero-add at (upto-next v W p (rw zero-add inside) e)
 
 -- a turn t over the block b of z slots stores at the slot b * z + t
 module _ {A : Type 0} {d : A} {base : ℕ} {P : ℕ → Type 0} {f : ℕ → A} {w w′ : List A} (z b t : ℕ) where
@@ -142,16 +139,16 @@ getD-tabulate d f (suc n) zero h = refl
 getD-tabulate d f (suc n) (suc s) h = getD-tabulate d (λ j. f (suc j)) n s (omega arith)
 
 past : {A : Type 0} (d : A) (xs ys : List A) (k j : ℕ) → length xs ≡ k → getD (xs ++ ys) (k + j) d ≡ getD ys j d
-past d xs ys k j e = ap (λ (n : ℕ). getD (xs ++ ys) (n + j) d) (sym e) ∙ getD-append-add xs ys j d
+past d xs ys k j e = rw (← e) (getD-append-add xs ys j d)
 
 -- what stands where in a list that is rewritten at the slots below n
 module _ {A : Type 0} (d : A) (base n : ℕ) (f : ℕ → A) (w : List A) (fits : base + n ≤ length w) where
   head : length (take base w) ≡ base
-  head = length-take-le base w (omega (arith, fits))
+  head = length-take-le base w (omega arith)
 
   pub length-rewritten : length (rewritten base n f w) ≡ length w
   unfolding rewritten
-  length-rewritten = simp (length-append, length-tabulate, length-drop) (omega (arith, head, fits))
+  length-rewritten = simp (length-append, length-tabulate, length-drop) (omega (arith, head))
 
   pub low-rewritten : (i : ℕ) → i < base → getD (rewritten base n f w) i d ≡ getD w i d
   unfolding rewritten
@@ -178,10 +175,12 @@ module _ {A : Type 0} (d : A) (base n : ℕ) (f : ℕ → A) (w : List A) (fits 
     where
       at : (i : ℕ) → Dec (i < base) → Dec (i < base + n) → getD w′ i d ≡ getD (rewritten base n f w) i d
       at i (yes h) d = low W i h ∙ sym (low-rewritten i h)
-      at i (no h) (yes k) = subst (λ (j : ℕ). getD w′ j d ≡ getD (rewritten base n f w) j d) (omega arith)
-          (W .at (i - base) (omega arith) ∙ sym (at-rewritten (i - base) (omega arith)))
-      at i (no h) (no k) = subst (λ (j : ℕ). getD w′ j d ≡ getD (rewritten base n f w) j d) (omega arith)
-          (W .off (base + (n + (i - (base + n)))) (λ s p e. omega arith) ∙ sym (high-rewritten (i - (base + n))))
+      at i (no h) (yes k) =
+          let e : base + (i - base) ≡ i = omega arith in
+          rw e at (W .at (i - base) (omega arith) ∙ sym (at-rewritten (i - base) (omega arith)))
+      at i (no h) (no k) =
+          let e : base + (n + (i - (base + n))) ≡ i = omega arith in
+          W .off i (λ s p q. omega arith) ∙ sym (rw e at (high-rewritten (i - (base + n))))
 
 -- a list that is written whole
 pub rewritten-all : {A : Type 0} (f : ℕ → A) (w : List A) → rewritten 0 (length w) f w ≡ tabulate f (length w)
@@ -193,8 +192,8 @@ pub filled : {A : Type 0} (d : A) (f : ℕ → A) (w : List A) {w′ : List A} (
     → ((s : ℕ) → k ≤ s → s < length w → getD w s d ≡ f s) → w′ ≡ tabulate f (length w)
 filled d f w {w′} k W rest =
     ext-getD d w′ (tabulate f (length w)) (W .long ∙ sym (length-tabulate f (length w)))
-    (λ i h. at i (omega (arith, h, W .long)) (decLt i k) ∙ sym (getD-tabulate d f (length w) i (omega (arith, h, W .long))))
+    (λ i h. at i (omega arith) (decLt i k) ∙ sym (getD-tabulate d f (length w) i (omega arith)))
   where
     at : (i : ℕ) → i < length w → Dec (i < k) → getD w′ i d ≡ f i
     at i h (yes b) = rw zero-add at (W .at i (record { among = h; below = b }))
-    at i h (no b) = W .off i (λ s p e. b (omega (arith, p .below, zero-add s))) ∙ rest i (omega arith) h
+    at i h (no b) = W .off i (λ s p e. b (omega arith)) ∙ rest i (omega arith) h

@@ -8,7 +8,8 @@ use Rattle.laws.specs.Range.{every, sum}
 use Rattle.laws.specs.Columns.{informationColumns}
 use Rattle.laws.proofs.Range.{le-at, eq-at}
 use Rattle.tables.specs.Flat.{rowList, shiftList}
-use Rattle.tables.specs.Graph.{graphNumber, baseColumns, infoColumns, baseRows, firstColumn}
+use Rattle.tables.specs.declared.Shape.{Shape}
+use Rattle.tables.specs.Graph.{graphNumber, baseColumns, infoColumns, baseRows, firstColumn, shapeOf}
 
 -- a rate and a family have a graph
 pub number-lt : (rate family : ℕ) → graphNumber rate family < 18
@@ -35,6 +36,28 @@ sizes g h =
       rows-most = le-at baseRows (λ k. 39) 18 tt g h;
       columns-most = le-at baseColumns (λ k. 60) 18 tt g h;
       inside = le-at (λ k. firstColumn k + infoColumns k) (λ k. 320) 18 tt g h;
+    }
+
+-- the same of the shape that a call answers
+pub record Shaped (s : Shape) : Type 0 where
+  pub info : 1 ≤ s .«k_b»
+  pub rows : 3 ≤ s .«m_b»
+  pub columns : s .«k_b» + s .«m_b» ≡ s .«n_b»
+  pub info-most : s .«k_b» ≤ 51
+  pub rows-most : s .«m_b» ≤ 39
+  pub columns-most : s .«n_b» ≤ 60
+
+pub shaped : (rate family : ℕ) → Shaped (shapeOf (graphNumber rate family))
+unfolding shapeOf
+shaped rate family =
+    let z = sizes (graphNumber rate family) (number-lt rate family) in
+    record {
+      info = z .info;
+      rows = z .rows;
+      columns = z .columns;
+      info-most = z .info-most;
+      rows-most = z .rows-most;
+      columns-most = z .columns-most;
     }
 
 -- 01, "Graphs": the graphs follow one another from column 0 to column 320, and the lists have three entries a column

@@ -5,7 +5,7 @@ mod flat;
 use flat::ROWS;
 use flat::SHIFTS;
 ghost use mathlib.Core.Path.{_≡_};
-ghost use Prim.Native.Nat.{_<_, min};
+ghost use Prim.Native.Nat.{_<_};
 ghost use Rattle.tables.specs.Graph.{graphNumber, firstColumn, shapeOf, graphOf};
 
 // The base columns, the information columns and the base rows of a graph.
@@ -67,16 +67,10 @@ const FIRST_COLUMN: [usize; 18] = [
     317,
 ];
 
-fn lesser(a: usize, b: usize) -> usize
-    ensures { λ r. ⌜ r ≡ min a b ⌝ }
-{
-    if a < b { a } else { b }
-}
-
 fn graph_number(rate: usize, family: usize) -> usize
     ensures { λ r. ⌜ r ≡ graphNumber rate family ⌝ }
 {
-    6 * lesser(family, 2) + lesser(rate, 5)
+    6 * numbers::lesser(family, 2) + numbers::lesser(rate, 5)
 }
 
 fn first_column(g: usize) -> usize

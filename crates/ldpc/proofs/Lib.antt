@@ -1,0 +1,12 @@
+pub mod Lift
+pub mod Chosen
+pub mod Made
+pub mod Turned
+pub mod Parts
+pub mod Summed
+pub mod CodeEdges
+pub mod Refused
+pub mod Staired
+pub mod Encoded
+pub mod Member
+pub mod Theorems

@@ -1,0 +1,57 @@
+-- The row, the column, the shift and the bits of each base edge, by its place among the edges. Assumes nothing.
+use mathlib.Core.Path.{_≡_}
+use mathlib.Core.Bool.{cond}
+use Prim.Native.Nat.{ℕ, _+_, _*_, _/_, _%_, _-_, _<_, _≤_}
+use native.Mathlib.Omega.{arith}
+use native.Mathlib.Decide.{ℕ-discrete}
+use native.Mathlib.Nat.{mod-lt}
+use lib.Dec.{eqb}
+use lib.ListN.{getD}
+use borrow.Author.Tests.{eq-eqb, ne-eqb, lt-ltb, le-ltb}
+use Rattle.laws.proofs.Slots.{slot-lt, slot-div}
+use Rattle.tables.specs.declared.BaseGraph.{BaseGraph}
+use Rattle.matrix.specs.Edges.{parityRow, edgeRow, edgeColumn, edgeShift, bitAt}
+
+-- from the parity edge 3 on: the row j at the edge 2j + 1, and j - 1 at the edge 2j + 2
+pub stair-row : (m p : ℕ) → 3 ≤ p → parityRow m p ≡ (p - 1) / 2 - (p + 1) % 2
+unfolding parityRow
+stair-row m p h =
+    rw (ne-eqb p 0 (omega arith), ne-eqb p 1 (omega arith), ne-eqb p 2 (omega arith)) (by (ℕ-discrete (p % 2) 1))
+  where
+    by : Dec (p % 2 ≡ 1) → cond (eqb (p % 2) 1) ((p - 1) / 2) ((p - 1) / 2 - 1) ≡ (p - 1) / 2 - (p + 1) % 2
+    by (yes o) = rw (eq-eqb (p % 2) 1 o) (omega arith)
+    by (no o) = rw (ne-eqb (p % 2) 1 o) (omega arith)
+
+-- an information edge
+module _ (g : BaseGraph) (b : ℕ) (h : b < 3 * g .shape .«k_b») where
+  pub info-row : edgeRow g b ≡ getD (g .rows) b 0
+  unfolding edgeRow
+  info-row = rw (lt-ltb b (3 * g .shape .«k_b») h)
+
+  pub info-column : edgeColumn g b ≡ b / 3
+  unfolding edgeColumn
+  info-column = rw (lt-ltb b (3 * g .shape .«k_b») h)
+
+-- a parity edge, of which the third alone is shifted
+module _ (g : BaseGraph) (b : ℕ) (h : 3 * g .shape .«k_b» ≤ b) where
+  pub parity-row : edgeRow g b ≡ parityRow (g .shape .«m_b») (b - 3 * g .shape .«k_b»)
+  unfolding edgeRow
+  parity-row = rw (le-ltb b (3 * g .shape .«k_b») h)
+
+  pub parity-column : edgeColumn g b ≡ g .shape .«k_b» + (b - 3 * g .shape .«k_b» - 1) / 2
+  unfolding edgeColumn
+  parity-column = rw (le-ltb b (3 * g .shape .«k_b») h)
+
+  pub parity-shift : edgeShift g b ≡ cond (eqb (b - 3 * g .shape .«k_b») 2) 1 0
+  unfolding edgeShift
+  parity-shift = rw (le-ltb b (3 * g .shape .«k_b») h)
+
+-- a bit lies in its base edge's column
+module _ (g : BaseGraph) (z b t : ℕ) (lift : 0 < z) where
+  pub bit-column : bitAt g z b t / z ≡ edgeColumn g b
+  unfolding bitAt
+  bit-column = slot-div (edgeColumn g b) z ((t + edgeShift g b) % z) (mod-lt (t + edgeShift g b) lift)
+
+  pub bit-lt : (n : ℕ) → edgeColumn g b < n → bitAt g z b t < n * z
+  unfolding bitAt
+  bit-lt n h = slot-lt h (mod-lt (t + edgeShift g b) lift)

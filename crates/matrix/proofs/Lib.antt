@@ -1,0 +1,6 @@
+-- The theorems of the matrix and the encoding. Assumes nothing.
+pub mod Edges
+pub mod Codeword
+pub mod Words
+pub mod Simple
+pub mod Members

@@ -1,0 +1,29 @@
+-- The base edges of a graph, by their numbers: 01, "Base edges". Assumes nothing.
+use mathlib.Core.Bool.{cond}
+use Prim.Native.Nat.{ℕ, _+_, _*_, _/_, _%_, _-_}
+use lib.Dec.{ltb, eqb}
+use lib.ListN.{getD}
+use Rattle.tables.specs.declared.BaseGraph.{BaseGraph}
+
+-- three in each information column, three in column k_b, two in each of the m_b - 1 columns after it
+unfoldable pub edges : BaseGraph → ℕ
+edges g = 3 * g .shape .«k_b» + 2 * g .shape .«m_b» + 1
+
+-- the rows of the parity edges: 0, m - 1 and m / 2 in column k_b, then j and j - 1 in column k_b + j
+unfoldable pub parityRow : ℕ → ℕ → ℕ
+parityRow m p =
+    cond (eqb p 0) 0 (cond (eqb p 1) (m - 1) (cond (eqb p 2) (m / 2) (cond (eqb (p % 2) 1) ((p - 1) / 2) ((p - 1) / 2 - 1))))
+
+unfoldable pub edgeRow : BaseGraph → ℕ → ℕ
+edgeRow g b = cond (ltb b (3 * g .shape .«k_b»)) (getD (g .rows) b 0) (parityRow (g .shape .«m_b») (b - 3 * g .shape .«k_b»))
+
+-- the parity edges 0, 1 and 2 stand in column k_b, 2j + 1 and 2j + 2 in column k_b + j
+unfoldable pub edgeColumn : BaseGraph → ℕ → ℕ
+edgeColumn g b = cond (ltb b (3 * g .shape .«k_b»)) (b / 3) (g .shape .«k_b» + (b - 3 * g .shape .«k_b» - 1) / 2)
+
+unfoldable pub edgeShift : BaseGraph → ℕ → ℕ
+edgeShift g b = cond (ltb b (3 * g .shape .«k_b»)) (getD (g .shifts) b 0) (cond (eqb (b - 3 * g .shape .«k_b») 2) 1 0)
+
+-- the bit that base edge b joins to the check at offset t of its base row, at lift z: Fossorier's circulant
+unfoldable pub bitAt : BaseGraph → ℕ → ℕ → ℕ → ℕ
+bitAt g z b t = edgeColumn g b * z + (t + edgeShift g b) % z

@@ -1,0 +1,31 @@
+-- What a call tells: what it gives, or 01's number of a refusal with its pair. Assumes nothing.
+use Prim.Native.Nat.{ℕ}
+use Rattle.refusals.specs.declared.Refusal.{Refusal}
+use Rattle.refusals.specs.declared.Refusal.the-variants.{NoFamily, TooLong, Design, Row, Input, NotBit, NoCheck, Work, Output, Iterations, Record}
+use Rattle.refusals.specs.declared.Numbers.{Numbers}
+
+pub data Told (A : Type 0) : Type 0 where
+  gave : A → Told A
+  refused : ℕ → ℕ → ℕ → Told A
+
+-- 01, "Who can cause a refusal": the number and the pair of each case
+abbrev pub numbersOf : Refusal → Numbers
+numbersOf (NoFamily n) = record { number = 1; first = 1; second = n }
+numbersOf (TooLong n) = record { number = 2; first = n; second = 19440 }
+numbersOf (Design value limit) = record { number = 3; first = value; second = limit }
+numbersOf (Row column place) = record { number = 4; first = column; second = place }
+numbersOf (Input given wanted) = record { number = 5; first = given; second = wanted }
+numbersOf (NotBit place value) = record { number = 6; first = place; second = value }
+numbersOf (NoCheck check checks) = record { number = 7; first = check; second = checks }
+numbersOf (Work given needed) = record { number = 8; first = given; second = needed }
+numbersOf (Output given wanted) = record { number = 9; first = given; second = wanted }
+numbersOf (Iterations all) = record { number = 10; first = all; second = 65535 }
+numbersOf (Record rate n) = record { number = 11; first = rate; second = n }
+
+abbrev pub refusedBy : {A : Type 0} → Refusal → Told A
+refusedBy r = refused (numbersOf r .number) (numbersOf r .first) (numbersOf r .second)
+
+-- what stands after a call: where it gave, what it writes; where it refused, what was there
+abbrev pub after : {A B : Type 0} → Told A → B → B → B
+after (gave a) written kept = written
+after (refused n p q) written kept = kept

@@ -1,0 +1,91 @@
+//! What crates/commission prints: the codes and the encodings of 01's commissioning table, each as the Rust answers it,
+//! held to what 01 says of it.
+use crate::{digits, family, refused};
+use lcr_core::ecc::ldpc::Code;
+use std::fmt::Write;
+
+/// A row of the codes: whether it is starred, the rate, n_tx, and what 01 says.
+type Row = (bool, usize, usize, &'static str);
+
+/// The row (9, 10) says "as (5, 10)", which stands apart.
+const CODES: [Row; 14] = [
+    (true, 0, 3, "refused 1"),
+    (true, 0, 4, "small, k 1, shortened 16"),
+    (true, 0, 9, "small, k 6"),
+    (true, 0, 10, "large, k 1, shortened 50"),
+    (true, 4, 10, "tiny, k 4"),
+    (true, 4, 11, "refused 1"),
+    (false, 4, 12, "small, k 1"),
+    (false, 5, 20, "small, k 7"),
+    (true, 5, 21, "refused 1"),
+    (true, 5, 22, "tiny, z 3, k 1"),
+    (false, 9, 10, ""),
+    (false, 0, 61, "z 2, k 43"),
+    (false, 0, 19_440, "z 324, k 16524"),
+    (false, 0, 19_441, "refused 2"),
+];
+
+/// The rate, n_tx, the information and its encoding by 01; each is starred.
+const ENCODINGS: [(usize, usize, &str, &str); 3] = [
+    (5, 10, "100", "1001001011"),
+    (5, 10, "010", "0101100001"),
+    (5, 22, "1", "1100101101111110100100"),
+];
+
+/// What the Rust chooses; it has no refusal 2, so that one is by 01 alone.
+fn choice(rate: usize, n_tx: usize) -> String {
+    if n_tx > 19_440 {
+        return format!("refused 2 {n_tx} 19440");
+    }
+    match Code::new(rate, n_tx) {
+        Ok(c) => {
+            let name = ["large", "small", "tiny"][family(&c)];
+            let (z, k, shortened) = (c.lift(), c.info_bits(), c.shortened_bits());
+            format!("{name}, z {z}, k {k}, shortened {shortened}")
+        }
+        Err(e) => refused(1, e),
+    }
+}
+
+/// Whether an answer has every part of what 01 says.
+fn holds(answer: &str, said: &str) -> bool {
+    let refusal = said.starts_with("refused");
+    let parts: Vec<&str> = answer.split(", ").collect();
+    said.is_empty()
+        || (refusal && answer.starts_with(&format!("{said} ")))
+        || (!refusal && said.split(", ").all(|part| parts.contains(&part)))
+}
+
+fn code((starred, rate, n_tx, said): Row) -> String {
+    let answer = choice(rate, n_tx);
+    assert!(
+        holds(&answer, said),
+        "01 says of ({rate},{n_tx}) {said}, the Rust {answer}"
+    );
+    let star = if starred { "*" } else { "" };
+    let line = format!("{star}({rate},{n_tx}): {answer}");
+    if rate <= 5 {
+        return line;
+    }
+    let other = choice(5, n_tx);
+    assert_eq!(answer, other, "01 says that rate {rate} counts as 5");
+    format!("{line}, as (5,{n_tx}): {other}")
+}
+
+fn encoding(rate: usize, n_tx: usize, info: &str, said: &str) -> String {
+    let bits: Vec<bool> = info.chars().map(|c| c == '1').collect();
+    let word = digits(&Code::new(rate, n_tx).unwrap().encode(&bits).unwrap());
+    assert_eq!(word, said, "the encoding of {info} at ({rate},{n_tx})");
+    format!("*({rate},{n_tx}) {info} gives {word}")
+}
+
+pub fn text() -> String {
+    let mut text = String::new();
+    for row in CODES {
+        writeln!(text, "{}", code(row)).unwrap();
+    }
+    for (rate, n_tx, info, said) in ENCODINGS {
+        writeln!(text, "{}", encoding(rate, n_tx, info, said)).unwrap();
+    }
+    text
+}
