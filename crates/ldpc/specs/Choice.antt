@@ -17,6 +17,7 @@ liftOf s n = max 1 ((n + s .«n_b» - 1) / s .«n_b»)
 unfoldable pub serves : Shape → ℕ → Bool
 serves s n = ltb (liftOf s n * s .«m_b») n
 
+-- the code of a family that serves: k = n_tx − z × m_b, shortened = z × n_b − n_tx
 unfoldable pub codeOf : ℕ → ℕ → ℕ → Code
 codeOf rate family n =
     let s = shapeOf (graphNumber rate family) in
@@ -29,7 +30,7 @@ codeOf rate family n =
       shortened = liftOf s n * s .«n_b» - n;
     }
 
--- the families from one on, of those still to be tried
+-- a family's code where it serves, else what the families after it give
 unfoldable pub triedFrom : ℕ → ℕ → ℕ → Told Code → Told Code
 triedFrom rate family n rest = cond (serves (shapeOf (graphNumber rate family)) n) (gave (codeOf rate family n)) rest
 

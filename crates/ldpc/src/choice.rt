@@ -2,7 +2,7 @@
 use refusals::Refusal;
 use tables::Shape;
 ghost use mathlib.Core.Path.{_≡_};
-ghost use Prim.Native.Nat.{_<_, _≤_, min};
+ghost use Prim.Native.Nat.{_<_, _≤_};
 ghost use Rattle.refusals.specs.Told.{refused};
 ghost use Rattle.ldpc.specs.Choice.{liftOf, triedFrom, chosen, told, made, sameCode};
 
@@ -20,13 +20,6 @@ pub struct Code {
 pub enum Choice {
     Made(Code),
     Refused(Refusal),
-}
-
-// A rate above 5 counts as 5.
-fn rate_index(rate: usize) -> usize
-    ensures { λ r. ⌜ r ≡ min rate 5 ⌝ }
-{
-    if rate < 5 { rate } else { 5 }
 }
 
 // n / n_b rounded up, at least 1.
@@ -79,14 +72,14 @@ impl Code {
 
     pub const CERTAIN: f32 = 1000000.0;
 
-    // The code for n_tx transmitted bits at a rate: the first family that serves.
+    // The code for n_tx transmitted bits at a rate: the first family that serves. A rate above 5 counts as 5.
     pub fn new(rate: usize, n_tx: usize) -> Choice
         ensures { λ r. ⌜ told r ≡ chosen rate «n_tx» ⌝ }
     {
         if 19440 < n_tx {
             return Choice::Refused(Refusal::TooLong(n_tx));
         }
-        let r = rate_index(rate);
+        let r = numbers::lesser(rate, 5);
         let large = try_family(r, 0, n_tx);
         if let Choice::Made(c) = large {
             return Choice::Made(c);

@@ -15,8 +15,14 @@ pub fn wide8(x: u8) -> usize
     x as usize
 }
 
-pub fn wide16(x: u16) -> usize
-    ensures { λ r. ⌜ r ≡ x ⌝ }
+pub fn wide16(n: u16) -> usize
+    ensures { λ r. ⌜ r ≡ n ⌝ }
 {
-    x as usize
+    n as usize
+}
+
+pub fn wide32(w: u32) -> usize
+    ensures { λ r. ⌜ r ≡ w ⌝ }
+{
+    w as usize
 }

@@ -4,7 +4,6 @@ use crate::inputs::sum_step;
 use ldpc::Code;
 use ldpc::Counted;
 use ldpc::EdgeAt;
-ghost use mathlib.Core.Path.{_≡_};
 
 // No code has 200 base edges: all are asked for, and some past the last.
 pub fn print_edges(c: Code) {
@@ -22,19 +21,12 @@ pub fn print_edges(c: Code) {
     print_summed(b"edges ", h, count);
 }
 
-// A place as a usize: an element that is passed needs no proof that it fits.
-fn wide32(x: u32) -> usize
-    ensures { λ r. ⌜ r ≡ x ⌝ }
-{
-    x as usize
-}
-
 // The first n members.
 fn print_places(members: &[u32], n: usize) {
     let end = numbers::lesser(n, members.len());
     let mut i = 0;
     while i < end {
-        text::print_number(wide32(members[i]), b' ');
+        text::print_number(numbers::wide32(members[i]), b' ');
         i += 1;
     }
 }
@@ -45,7 +37,7 @@ fn print_sum(members: &[u32], n: usize) {
     let mut h = 0;
     let mut i = 0;
     while i < end {
-        h = sum_step(h, wide32(members[i]));
+        h = sum_step(h, numbers::wide32(members[i]));
         i += 1;
     }
     text::print_number(h, b' ');

@@ -10,8 +10,8 @@ use Rattle.ldpc.proofs.choice.Code.new.Tie as tie
 returns : tie.Need-returns
 returns c = sym (chosen-long (c .before .args .rate) (c .before .args .n-tx) (c .if1 .taken))
 
-rate-index-requires : tie.Need-rate-index-requires
-rate-index-requires c κs = search needs
+lesser-requires : tie.Need-lesser-requires
+lesser-requires c κs = search needs
 
 try-family-requires : tie.Need-try-family-requires
 try-family-requires c κs = search needs
@@ -23,8 +23,8 @@ returns-2 : tie.Need-returns-2
 returns-2 c =
     let indexed = c .before .before .before .before in
     let n = indexed .before .before .args .n-tx in
-    let r = indexed .rate-index .result in
-    rw (chosen-short (indexed .before .before .args .rate) n (indexed .before .if1 .left), ← indexed .rate-index .ensures)
+    let r = indexed .lesser .result in
+    rw (chosen-short (indexed .before .before .args .rate) n (indexed .before .if1 .left), ← indexed .lesser .ensures)
     (tried-gave r 0 n (triedFrom r 1 n (triedFrom r 2 n (refused 1 1 n))) (sym (ap told (c .before .large .given .1)) ∙ c .before .before .before .try-family .ensures))
 
 enum-told : tie.Need-enum-told
@@ -41,10 +41,10 @@ returns-3 c =
     let passed = c .before .before .before .before in
     let indexed = passed .before .before .before in
     let n = indexed .before .before .args .n-tx in
-    let r = indexed .rate-index .result in
+    let r = indexed .lesser .result in
     rw (
       chosen-short (indexed .before .before .args .rate) n (indexed .before .if1 .left),
-      ← indexed .rate-index .ensures,
+      ← indexed .lesser .ensures,
       tried-refused r 0 n (triedFrom r 1 n (triedFrom r 2 n (refused 1 1 n))) (sym (ap told (passed .enum-told .given .1)) ∙ passed .before .before .try-family .ensures),
     )
     (tried-gave r 1 n (triedFrom r 2 n (refused 1 1 n)) (sym (ap told (c .before .small .given .1)) ∙ c .before .before .before .try-family2 .ensures))
@@ -61,10 +61,10 @@ returns-4 c =
     let passed = passed-2 .before .before .before in
     let indexed = passed .before .before .before in
     let n = indexed .before .before .args .n-tx in
-    let r = indexed .rate-index .result in
+    let r = indexed .lesser .result in
     rw (
       chosen-short (indexed .before .before .args .rate) n (indexed .before .if1 .left),
-      ← indexed .rate-index .ensures,
+      ← indexed .lesser .ensures,
       tried-refused r 0 n (triedFrom r 1 n (triedFrom r 2 n (refused 1 1 n))) (sym (ap told (passed .enum-told .given .1)) ∙ passed .before .before .try-family .ensures),
       tried-refused r 1 n (triedFrom r 2 n (refused 1 1 n)) (sym (ap told (passed-2 .enum-told2 .given .1)) ∙ passed-2 .before .before .try-family2 .ensures),
     )
@@ -75,7 +75,7 @@ new-spec =
     tie.close
     (tie.spec
     returns
-    rate-index-requires
+    lesser-requires
     try-family-requires
     enum-known-large
     returns-2
