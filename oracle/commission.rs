@@ -1,5 +1,5 @@
-//! What crates/commission prints: the codes and the encodings of 01's commissioning table, each as the Rust answers it,
-//! held to what 01 says of it.
+//! What crates/commission prints: the codes, the encodings and the decodes of 01's commissioning table, each as the Rust
+//! answers it, held to what 01 says of it.
 use crate::{digits, family, refused};
 use lcr_core::ecc::ldpc::Code;
 use std::fmt::Write;
@@ -30,6 +30,48 @@ const ENCODINGS: [(usize, usize, &str, &str); 3] = [
     (5, 10, "100", "1001001011"),
     (5, 10, "010", "0101100001"),
     (5, 22, "1", "1100101101111110100100"),
+];
+
+/// A decode of readings of one size, negative at some places, with a limit.
+struct Decoding {
+    starred: bool,
+    rate: usize,
+    n_tx: usize,
+    size: f32,
+    negative: &'static [usize],
+    limit: u16,
+    said: &'static str,
+}
+
+/// 01's "with 0 grants" is a limit of 0; 50 is the Rust's own limit.
+const DECODES: [Decoding; 3] = [
+    Decoding {
+        starred: true,
+        rate: 5,
+        n_tx: 10,
+        size: 1.0,
+        negative: &[0],
+        limit: 1,
+        said: "0000000000, iterations 1, clean",
+    },
+    Decoding {
+        starred: false,
+        rate: 5,
+        n_tx: 10,
+        size: 1.0,
+        negative: &[0],
+        limit: 0,
+        said: "1000000000, not converged",
+    },
+    Decoding {
+        starred: true,
+        rate: 5,
+        n_tx: 9,
+        size: 1e8,
+        negative: &[2, 3, 6],
+        limit: 50,
+        said: "001100100, iterations 1, converged, not clean, unsatisfied 3",
+    },
 ];
 
 /// What the Rust chooses; it has no refusal 2, so that one is by 01 alone.
@@ -79,6 +121,45 @@ fn encoding(rate: usize, n_tx: usize, info: &str, said: &str) -> String {
     format!("*({rate},{n_tx}) {info} gives {word}")
 }
 
+fn whether(so: bool, what: &str) -> String {
+    format!("{}{what}", if so { "" } else { "not " })
+}
+
+/// What the Rust decodes. It has no clean flag, which is computed here as 01 says.
+fn decoded(d: &Decoding) -> String {
+    let c = Code::new(d.rate, d.n_tx).unwrap();
+    let sign = |i| if d.negative.contains(&i) { -1.0 } else { 1.0 };
+    let rx: Vec<f32> = (0..d.n_tx).map(|i| sign(i) * d.size).collect();
+    let r = c.decode(&rx, d.limit).unwrap();
+    let unsatisfied = c.unsatisfied(&r.codeword);
+    format!(
+        "{}, iterations {}, {}, {}, unsatisfied {unsatisfied}",
+        digits(&r.codeword),
+        r.iterations,
+        whether(r.converged, "converged"),
+        whether(r.converged && unsatisfied == 0, "clean"),
+    )
+}
+
+fn decoding(d: &Decoding) -> String {
+    let answer = decoded(d);
+    let places: Vec<String> = d.negative.iter().map(|p| p.to_string()).collect();
+    let grants = if d.limit == 0 { ", with 0 grants" } else { "" };
+    let asked = format!(
+        "({},{}) readings {}, negative at {}{grants}",
+        d.rate,
+        d.n_tx,
+        d.size,
+        places.join(" ")
+    );
+    let said = d.said;
+    assert!(
+        holds(&answer, said),
+        "01 says of {asked} {said}, the Rust {answer}"
+    );
+    format!("{}{asked}: {answer}", if d.starred { "*" } else { "" })
+}
+
 pub fn text() -> String {
     let mut text = String::new();
     for row in CODES {
@@ -86,6 +167,9 @@ pub fn text() -> String {
     }
     for (rate, n_tx, info, said) in ENCODINGS {
         writeln!(text, "{}", encoding(rate, n_tx, info, said)).unwrap();
+    }
+    for d in &DECODES {
+        writeln!(text, "{}", decoding(d)).unwrap();
     }
     text
 }

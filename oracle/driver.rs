@@ -5,6 +5,7 @@ use lcr_core::error::LcrError;
 use std::fmt::Write;
 
 mod commission;
+mod decodes;
 mod replay;
 
 /// A line with the family, the rate, n_b, k_b and m_b, then a line for each information column.
@@ -52,10 +53,34 @@ fn digits(bits: &[bool]) -> String {
     bits.iter().map(|&b| if b { '1' } else { '0' }).collect()
 }
 
+/// The generator's states after a seed.
+fn states(seed: usize) -> impl Iterator<Item = usize> {
+    std::iter::successors(Some(seed), |s| Some(s % 65_537 * 75 % 65_537)).skip(1)
+}
+
+/// The bits of the generator.
+fn random(seed: usize, n: usize) -> Vec<bool> {
+    states(seed).take(n).map(|s| s % 2 == 1).collect()
+}
+
+fn checksum(numbers: impl Iterator<Item = usize>) -> usize {
+    numbers.fold(0, |h, x| (h * 31 + x) % 65_521)
+}
+
+/// A word of up to `full` bits as it is, a longer one by its checksum.
+fn word_text(word: &[bool], full: usize) -> String {
+    if word.len() <= full {
+        return digits(word);
+    }
+    let h = checksum(word.iter().map(|&b| b as usize));
+    format!("sum {h} count {}", word.len())
+}
+
 fn main() {
     match std::env::args().nth(1).as_deref() {
         Some("graphs") => print!("{}", graphs()),
         Some("replay") => print!("{}", replay::text()),
+        Some("decodes") => print!("{}", decodes::text()),
         Some("commission") => print!("{}", commission::text()),
         other => panic!("no such program: {other:?}"),
     }

@@ -1,5 +1,5 @@
 //! What crates/replay prints: see its src/ for the inputs, which are computed here once more.
-use crate::{digits, family, refused};
+use crate::{checksum, family, random, refused, word_text};
 use lcr_core::ecc::ldpc::Code;
 use std::fmt::Write;
 
@@ -62,20 +62,6 @@ fn choice(rate: usize, n_tx: usize) -> String {
     }
 }
 
-/// The bits of the generator.
-fn random(seed: usize, n: usize) -> Vec<bool> {
-    let mut state = seed;
-    let mut step = || {
-        state = state * 75 % 65_537;
-        state % 2 == 1
-    };
-    (0..n).map(|_| step()).collect()
-}
-
-fn checksum(numbers: impl Iterator<Item = usize>) -> usize {
-    numbers.fold(0, |h, x| (h * 31 + x) % 65_521)
-}
-
 fn getters(text: &mut String, rate: usize, c: &Code) {
     let (n, k) = (c.coded_bits(), c.info_bits());
     let (z, shortened, checks) = (c.lift(), c.shortened_bits(), c.checks());
@@ -114,11 +100,7 @@ fn checks(text: &mut String, c: &Code) {
 
 fn encoded(c: &Code, info: &[bool]) -> String {
     match c.encode(info) {
-        Ok(word) if word.len() <= 200 => digits(&word),
-        Ok(word) => {
-            let h = checksum(word.iter().map(|&b| b as usize));
-            format!("sum {h} count {}", word.len())
-        }
+        Ok(word) => word_text(&word, 200),
         Err(e) => refused(5, e),
     }
 }

@@ -1,18 +1,21 @@
-// Prints 01's commissioning table as far as codes and encodings, in its order, with a star on the rows that are starred
-// there. The file stdout was written by the oracle, which holds the Rust's answers to what 01 says.
+// Prints 01's commissioning table in its order, with a star on the rows that are starred there; its last row, on
+// four-cycles, is graph design's and not printed here. The file stdout was written by the oracle, which holds the Rust's
+// answers to what 01 says.
+mod decodes;
+
 use ldpc::Choice;
 use ldpc::Code;
 use ldpc::Encoded;
 ghost use mathlib.Core.Path.{_≡_};
 ghost use Rattle.ldpc.specs.Calls.{encodeWritten};
 
-fn print_asked(rate: usize, n_tx: usize) {
+pub fn print_asked(rate: usize, n_tx: usize) {
     text::print_bytes(b"(");
     text::print_number(rate, b',');
     text::print_number(n_tx, b')');
 }
 
-fn print_star(starred: bool) {
+pub fn print_star(starred: bool) {
     if starred {
         text::print_bytes(b"*");
     }
@@ -115,4 +118,5 @@ fn main() {
     print_encoding(5, 10, &[1, 0, 0]);
     print_encoding(5, 10, &[0, 1, 0]);
     print_encoding(5, 22, &[1]);
+    decodes::print_decodes();
 }

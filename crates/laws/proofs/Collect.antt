@@ -8,6 +8,8 @@ use native.Mathlib.Omega.{arith}
 use native.Mathlib.Numerals.{add-one}
 use native.Mathlib.Decide.{ℕ-discrete, decLt}
 use native.Mathlib.Nat.{add-zero}
+use lib.Dec.{ltb, eqb}
+use borrow.Author.Tests.{lt-ltb, le-ltb, eq-eqb, ne-eqb}
 use lib.ListN.{length, drop, getD, set, length-append, length-drop, List·getD-append}
 use lib.Seq.{drop-cons, append-snoc, set-append-seam, getD-at}
 use Rattle.laws.specs.Range.{count, collect}
@@ -74,6 +76,38 @@ module _ (p : ℕ → Bool) where
       by (yes l) d = l
       by (no l) (yes q) = omega (arith, ap (count p) q)
       by (no l) (no q) = omega (arith, count-lt b b′ (omega arith) e)
+
+  -- a count is at most all, and all where every number is counted
+  pub count-most : (n : ℕ) → count p n ≤ n
+  unfolding count
+  count-most zero = omega arith
+  count-most (suc n) = by (p n) (count-most n)
+    where
+      by : (t : Bool) → count p n ≤ n → cond t (count p n + 1) (count p n) ≤ suc n
+      by true h = omega arith
+      by false h = omega arith
+
+  pub count-every : (n : ℕ) → ((i : ℕ) → i < n → p i ≡ true) → count p n ≡ n
+  unfolding count
+  count-every zero e = refl
+  count-every (suc n) e = rw (e n (omega arith)) (omega (arith, count-every n (λ i h. e i (omega arith))))
+
+-- the numbers whose key is below k + 1 are those whose key is below k and those whose key is k
+pub count-keys : (key : ℕ → ℕ) (k n : ℕ)
+    → count (λ b. ltb (key b) (suc k)) n ≡ count (λ b. ltb (key b) k) n + count (λ b. eqb (key b) k) n
+unfolding count
+count-keys key k zero = refl
+count-keys key k (suc n) = by (decLt (key n) k) (ℕ-discrete (key n) k) (count-keys key k n)
+  where
+    by : Dec (key n < k) → Dec (key n ≡ k)
+        → count (λ b. ltb (key b) (suc k)) n ≡ count (λ b. ltb (key b) k) n + count (λ b. eqb (key b) k) n
+        → count (λ b. ltb (key b) (suc k)) (suc n) ≡ count (λ b. ltb (key b) k) (suc n) + count (λ b. eqb (key b) k) (suc n)
+    by (yes l) d e =
+        rw (lt-ltb (key n) k l, lt-ltb (key n) (suc k) (omega arith), ne-eqb (key n) k (omega arith)) (omega arith)
+    by (no l) (yes q) e =
+        rw (le-ltb (key n) k (omega arith), lt-ltb (key n) (suc k) (omega arith), eq-eqb (key n) k q) (omega arith)
+    by (no l) (no q) e =
+        rw (le-ltb (key n) k (omega arith), le-ltb (key n) (suc k) (omega arith), ne-eqb (key n) k q) (omega arith)
 
 module _ {A : Type 0} (p : ℕ → Bool) (f : ℕ → A) where
   pub collect-more : (n : ℕ) → p n ≡ true → collect p f (n + 1) ≡ collect p f n ++ (f n ∷ [])

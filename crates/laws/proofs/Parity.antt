@@ -1,6 +1,6 @@
 -- The laws of xor and of sums modulo 2 over a range. Assumes nothing.
 use mathlib.Core.Path.{_≡_, refl, sym, ap, ap₂, _∙_}
-use mathlib.Core.Bool.{Bool, true, false, xor, _&&_}
+use mathlib.Core.Bool.{Bool, true, false, not, xor, _&&_, Bool·beq}
 use Prim.Native.Nat.{ℕ, zero, suc, _+_, _*_, _<_}
 use native.Mathlib.Omega.{arith}
 use native.Mathlib.Decide.{ℕ-discrete}
@@ -26,6 +26,14 @@ xor-comm true true = refl
 xor-comm true false = refl
 xor-comm false true = refl
 xor-comm false false = refl
+
+-- what the code's `^` and `!=` say of two bools
+pub unlike-xor : (a b : Bool) → not (Bool·beq a b) ≡ xor a b
+unfolding xor
+unlike-xor true true = refl
+unlike-xor true false = refl
+unlike-xor false true = refl
+unlike-xor false false = refl
 
 pub xor-assoc : (a b c : Bool) → xor (xor a b) c ≡ xor a (xor b c)
 unfolding xor

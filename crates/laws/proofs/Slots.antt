@@ -1,8 +1,8 @@
--- The slot b * z + t, for t below z, and the offset t turned by one. Assumes nothing.
-use mathlib.Core.Path.{_≡_, sym, _∙_}
+-- The slot b * z + t, for t below z, and the offset t turned on and back. Assumes nothing.
+use mathlib.Core.Path.{_≡_, sym, ap, _∙_}
 use Prim.Native.Nat.{ℕ, _+_, _*_, _/_, _%_, _-_, _<_, _≤_}
 use native.Mathlib.Nat.{mul-le-mul-right, mul-add-div-right, div-eq-of-lt, add-zero, div-lt-iff-lt-mul}
-use native.Mathlib.Nat.{zero-add, mul-add-mod-self-right, mod-eq-of-lt, mod-add-mod, add-mod-right, div-add-mod'}
+use native.Mathlib.Nat.{zero-add, mul-add-mod-self-right, mod-lt, mod-eq-of-lt, mod-add-mod, add-mod-mod, add-mod-right, div-add-mod'}
 use native.Mathlib.Omega.{arith}
 
 pub slot-lt : {b n z t : ℕ} → b < n → t < z → b * z + t < n * z
@@ -37,9 +37,29 @@ on-then-back t z h =
     let d : t + 1 + (z - 1) ≡ t + z = omega arith in
     rw (e, mod-add-mod, d, add-mod-right, mod-eq-of-lt h)
 
+-- an offset turned back by s and then on by s
+pub back-then-on-by : (s t z : ℕ) → t < z → ((t + z - s % z) % z + s) % z ≡ t
+back-then-on-by s t z h =
+    let p : 0 < z = omega arith in
+    let e : t + z - s % z + s % z ≡ t + z = omega (arith, mod-lt s p) in
+    rw (mod-add-mod, ← add-mod-mod (t + z - s % z) s z, e, add-mod-right, mod-eq-of-lt h)
+
 -- what turning back by one comes to
 pub back-first : (z : ℕ) → 1 ≤ z → (0 + z - 1) % z ≡ z - 1
 back-first z h = rw zero-add (mod-eq-of-lt (omega arith))
 
 pub back-next : (t z : ℕ) → 1 ≤ t → t < z → (t + z - 1) % z ≡ t - 1
 back-next t z h l = let e : t + z - 1 ≡ t - 1 + z = omega arith in rw (e, add-mod-right) (mod-eq-of-lt (omega arith))
+
+-- the two cases of a rotation by s below z: of offset t, on by s; of offset j, back by s
+pub turned-low : (t s z : ℕ) → t < z - s → (t + s) % z ≡ t + s
+turned-low t s z h = mod-eq-of-lt (omega arith)
+
+pub turned-high : (t s z : ℕ) → t < z → s < z → z - s ≤ t → (t + s) % z ≡ t + s - z
+turned-high t s z h k l = let e : t + s ≡ (t + s - z) + z = omega arith in ap (λ (x : ℕ). x % z) e ∙ add-mod-right (t + s - z) z ∙ mod-eq-of-lt (omega arith)
+
+pub back-low : (j s z : ℕ) → s < z → j < s → (j + z - s) % z ≡ j + z - s
+back-low j s z h k = mod-eq-of-lt (omega arith)
+
+pub back-high : (j s z : ℕ) → j < z → s < z → s ≤ j → (j + z - s) % z ≡ j - s
+back-high j s z h k l = let e : j + z - s ≡ (j - s) + z = omega arith in ap (λ (x : ℕ). x % z) e ∙ add-mod-right (j - s) z ∙ mod-eq-of-lt (omega arith)

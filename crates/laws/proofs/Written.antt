@@ -1,11 +1,11 @@
 -- The laws of `Written`: with no place written; one place more; one run of writes after another; and the whole as a list. Assumes nothing.
-use mathlib.Core.Path.{_≡_, refl, sym, ap, _∙_, subst}
+use mathlib.Core.Path.{_≡_, refl, sym, ap, ap₂, _∙_, subst}
 use mathlib.Core.Logic.{_⊎_, inl, inr, ⊎-elim}
-use mathlib.Core.List.{List, _++_, append-nil}
+use mathlib.Core.List.{List, _∷_, _++_, append-nil}
 use Prim.Native.Nat.{ℕ, zero, suc, _+_, _-_, _*_, _/_, _%_, _<_, _≤_}
 use native.Mathlib.Omega.{arith}
 use native.Mathlib.Decide.{ℕ-discrete, decLt}
-use native.Mathlib.Nat.{add-assoc, zero-add}
+use native.Mathlib.Nat.{add-assoc, zero-add, mod-lt}
 use lib.ListN.{length, take, drop, getD, set, length-set, length-drop, length-append, List·getD-append}
 use lib.Seq.{drop-length, length-take-le, getD-set-same, getD-set-other, ext-getD, getD-append-add, getD-take, getD-drop}
 use Rattle.laws.proofs.Slots.{slot-div, slot-mod, slot-is}
@@ -56,6 +56,49 @@ module _ {A : Type 0} {d : A} {base : ℕ} where
   pub high : {P : ℕ → Type 0} {f : ℕ → A} {w w′ : List A} (n : ℕ) → Written d base P f w w′ → ((s : ℕ) → P s → s < n)
       → (i : ℕ) → base + n ≤ i → getD w′ i d ≡ getD w i d
   high n W b i h = W .off i (λ s p e. omega (arith, b s p))
+
+  -- a run of a places, and then one of b places after it
+  pub runs : {f g : ℕ → A} {w w′ w″ : List A} (a b : ℕ) (h : ℕ → A) → Written d base (λ i. i < a) f w w′
+      → Written d (base + a) (λ i. i < b) g w′ w″ → ((i : ℕ) → i < a → f i ≡ h i) → ((i : ℕ) → i < b → g i ≡ h (a + i))
+      → Written d base (λ i. i < a + b) h w w″
+  runs {f} {g} {w} {w′} {w″} a b h W U e k =
+      record {
+        long = U .long ∙ W .long;
+        at = λ i l. at-place i l (decLt i a);
+        off = λ i l. U .off i (λ s p q. l (a + s) (omega arith) (omega arith)) ∙ W .off i (λ s p q. l s (omega arith) q);
+      }
+    where
+      at-place : (i : ℕ) → i < a + b → Dec (i < a) → getD w″ (base + i) d ≡ h i
+      at-place i l (yes p) = U .off (base + i) (λ s q r. omega arith) ∙ W .at i p ∙ e i p
+      at-place i l (no p) =
+          let r : base + a + (i - a) ≡ base + i = omega arith in
+          let r′ : a + (i - a) ≡ i = omega arith in
+          subst (λ (x : ℕ). getD w″ x d ≡ h i) r (U .at (i - a) (omega arith) ∙ k (i - a) (omega arith) ∙ ap h r′)
+
+  -- the places of P that are not written hold what h says there already
+  pub widen : {P Q : ℕ → Type 0} {h : ℕ → A} {w w′ : List A} → Written d base Q h w w′ → ((s : ℕ) → Q s → P s)
+      → ((s : ℕ) → P s → Q s ⊎ (((Q s → ⊥) × (getD w (base + s) d ≡ h s)))) → Written d base P h w w′
+  widen {P} {Q} {h} {w} {w′} W to rest =
+      record {
+        long = W .long;
+        at = λ s p. ⊎-elim (λ q. W .at s q) (λ n. W .off (base + s) (λ j q e. n .0 (subst Q (omega arith) q)) ∙ n .1) (rest s p);
+        off = λ i k. W .off i (λ s q. k s (to s q));
+      }
+
+  -- a run of z places, as block b of a region
+  pub block : {P : ℕ → Type 0} {f : ℕ → A} {w w′ : List A} (z b : ℕ) (h : ℕ → A) → 0 < z → Written d (base + b * z) (λ t. t < z) f w w′
+      → ((t : ℕ) → t < z → P (b * z + t)) → ((t : ℕ) → t < z → f t ≡ h (b * z + t)) → Written d base (At P (λ s. s / z) b) h w w′
+  block {P} {f} {w} {w′} z b h lift W inside e =
+      record {
+        long = W .long;
+        at = λ s p. at-slot s (s % z) (mod-lt s lift) (slot-is s z b (s % z) (p .has) refl);
+        off = λ i k. W .off i (λ t l q. k (b * z + t) (record { among = inside t l; has = slot-div b z t l }) (omega arith));
+      }
+    where
+      at-slot : (s t : ℕ) → t < z → s ≡ b * z + t → getD w′ (base + s) d ≡ h s
+      at-slot s t l q =
+          let r : base + b * z + t ≡ base + s = omega arith in
+          subst (λ (x : ℕ). getD w′ x d ≡ h s) r (W .at t l ∙ e t l ∙ ap h (sym q))
 
 -- A loop that goes by a key of the slots: before the turn k the slots with P whose key is below k are written.
 pub record Upto (P : ℕ → Type 0) (key : ℕ → ℕ) (k s : ℕ) : Type 0 where
@@ -138,6 +181,12 @@ getD-tabulate d f zero s h = absurd (omega arith)
 getD-tabulate d f (suc n) zero h = refl
 getD-tabulate d f (suc n) (suc s) h = getD-tabulate d (λ j. f (suc j)) n s (omega arith)
 
+-- functions that agree below n make the same list
+pub tabulate-ext : {A : Type 0} (f g : ℕ → A) (n : ℕ) → ((s : ℕ) → s < n → f s ≡ g s) → tabulate f n ≡ tabulate g n
+unfolding tabulate
+tabulate-ext f g zero e = refl
+tabulate-ext f g (suc n) e = ap₂ _∷_ (e 0 (omega arith)) (tabulate-ext (λ s. f (suc s)) (λ s. g (suc s)) n (λ s h. e (suc s) (omega arith)))
+
 past : {A : Type 0} (d : A) (xs ys : List A) (k j : ℕ) → length xs ≡ k → getD (xs ++ ys) (k + j) d ≡ getD ys j d
 past d xs ys k j e = rw (← e) (getD-append-add xs ys j d)
 
@@ -187,12 +236,17 @@ pub rewritten-all : {A : Type 0} (f : ℕ → A) (w : List A) → rewritten 0 (l
 unfolding rewritten
 rewritten-all f w = rw (zero-add, drop-length, append-nil)
 
+-- a list that holds f at each place is f all through
+pub tabulated : {A : Type 0} (d : A) (f : ℕ → A) (n : ℕ) (l : List A) → length l ≡ n → ((s : ℕ) → s < n → getD l s d ≡ f s)
+    → l ≡ tabulate f n
+tabulated d f n l e at =
+    ext-getD d l (tabulate f n) (e ∙ sym (length-tabulate f n))
+    (λ i h. let k : i < n = omega arith in at i k ∙ sym (getD-tabulate d f n i k))
+
 -- a list that is written from the front, and held f already past what is written, is f all through
 pub filled : {A : Type 0} (d : A) (f : ℕ → A) (w : List A) {w′ : List A} (k : ℕ) → Written d 0 (Upto (λ s. s < length w) (λ s. s) k) f w w′
     → ((s : ℕ) → k ≤ s → s < length w → getD w s d ≡ f s) → w′ ≡ tabulate f (length w)
-filled d f w {w′} k W rest =
-    ext-getD d w′ (tabulate f (length w)) (W .long ∙ sym (length-tabulate f (length w)))
-    (λ i h. at i (omega arith) (decLt i k) ∙ sym (getD-tabulate d f (length w) i (omega arith)))
+filled d f w {w′} k W rest = tabulated d f (length w) w′ (W .long) (λ i h. at i h (decLt i k))
   where
     at : (i : ℕ) → i < length w → Dec (i < k) → getD w′ i d ≡ f i
     at i h (yes b) = rw zero-add at (W .at i (record { among = h; below = b }))

@@ -33,3 +33,8 @@ collect p f (suc n) = collect p f n ++ cond (p n) (f n ∷ []) []
 unfoldable pub first : (ℕ → Bool) → ℕ → ℕ
 first p zero = 0
 first p (suc n) = cond (ltb (first p n) n) (first p n) (cond (p n) n (suc n))
+
+-- x taken on by f through the numbers of a list, from its front
+unfoldable pub folded : {A : Type 0} → (A → ℕ → A) → A → List ℕ → A
+folded f x [] = x
+folded f x (n ∷ l) = folded f (f x n) l

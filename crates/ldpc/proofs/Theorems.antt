@@ -68,7 +68,7 @@ code-sizes c m =
       length-most = S .length-most;
       lift-most = S .lift-most;
       checks-most = mul-le-mul (S .shape .rows-most) (S .lift-most);
-      work-most = omega (arith, mul-le-mul (S .shape .columns-most) (S .lift-most), mul-le-mul (S .lift-most) e);
+      work-most = omega (arith, mul-le-mul (S .shape .columns-most) (S .lift-most), mul-le-mul e (S .lift-most));
     }
 
 -- a word of the block's length meets every check exactly when it is the encoding of its own information bits

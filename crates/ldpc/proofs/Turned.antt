@@ -3,10 +3,10 @@ use mathlib.Core.Path.{_≡_, refl, sym, ap, _∙_, subst}
 use mathlib.Core.List.{List}
 use Prim.Native.Nat.{ℕ, zero, suc, _+_, _%_, _-_, _<_, _≤_, min}
 use native.Mathlib.Omega.{arith}
-use native.Mathlib.Nat.{mod-eq-of-lt, add-mod-right}
 use native.Mathlib.Decide.{decLt}
 use borrow.Author.Tests.{lt-ltb, le-ltb}
 use lib.ListN.{length, getD}
+use Rattle.laws.proofs.Slots.{turned-low, turned-high}
 use Rattle.ldpc.specs.declared.sums.Part.{Part}
 use Rattle.ldpc.specs.Sums.{differing, byteIn, Bits, Added, AddedTurned}
 
@@ -14,15 +14,6 @@ differing-zero : (a : ℕ) → a ≤ 1 → differing a 0 ≡ a
 differing-zero zero h = refl
 differing-zero (suc zero) h = refl
 differing-zero (suc (suc a)) h = absurd (omega arith)
-
--- the two cases of a rotation
-pub turned-low : (t s z : ℕ) → t < z - s → (t + s) % z ≡ t + s
-turned-low t s z h = mod-eq-of-lt (omega arith)
-
-pub turned-high : (t s z : ℕ) → t < z → s < z → z - s ≤ t → (t + s) % z ≡ t + s - z
-turned-high t s z h k l =
-    let e : t + s ≡ (t + s - z) + z = omega arith in
-    ap (λ (x : ℕ). x % z) e ∙ add-mod-right (t + s - z) z ∙ mod-eq-of-lt (omega arith)
 
 module _ (at z s : ℕ) (bits : List ℕ) (part : Part) (l l₁ l₂ : List ℕ) (s-lt : s < z) (there-most : part .there ≤ z)
     (inside : at + z ≤ length l) (is-bits : Bits l)

@@ -19,4 +19,4 @@ checksOf c = codeGraph c .shape .«m_b» * c .z
 
 -- 01, "Work memory": 2 * N + 2 * E
 unfoldable pub workOf : Code → ℕ
-workOf c = 2 * (codeGraph c .shape .«n_b» * c .z) + 2 * (c .z * edges (codeGraph c))
+workOf c = 2 * (codeGraph c .shape .«n_b» * c .z) + 2 * (edges (codeGraph c) * c .z)

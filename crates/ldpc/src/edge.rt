@@ -1,5 +1,5 @@
 // The base edges of a graph, and the bit that one joins to a check: 01, "Base edges". What these functions require, their
-// callers in this crate meet.
+// callers in this and the decoder's crates meet.
 use tables::Shape;
 ghost use mathlib.Core.Path.{_≡_};
 ghost use Prim.Native.Nat.{_+_, _*_, _%_, _<_, _≤_};

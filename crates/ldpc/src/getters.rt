@@ -92,6 +92,6 @@ impl Code {
             return 0;
         }
         let s = tables::shape_of(self.rate, self.family);
-        2 * (s.n_b * self.z) + 2 * (self.z * (3 * s.k_b + 2 * s.m_b + 1))
+        2 * (s.n_b * self.z) + 2 * ((3 * s.k_b + 2 * s.m_b + 1) * self.z)
     }
 }

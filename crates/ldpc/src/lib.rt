@@ -11,5 +11,7 @@ pub use choice::Choice;
 pub use choice::Code;
 pub use edge::Edge;
 pub use edge::EdgeAt;
+pub use edge::edge_at;
 pub use encode::Encoded;
 pub use members::Counted;
+pub use members::unmet_checks;

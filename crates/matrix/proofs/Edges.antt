@@ -1,16 +1,16 @@
--- The row, the column, the shift and the bits of each base edge, by its place among the edges. Assumes nothing.
+-- The row, the column, the shift, the bits and the slots of each base edge, by its place among the edges. Assumes nothing.
 use mathlib.Core.Path.{_≡_}
 use mathlib.Core.Bool.{cond}
 use Prim.Native.Nat.{ℕ, _+_, _*_, _/_, _%_, _-_, _<_, _≤_}
 use native.Mathlib.Omega.{arith}
 use native.Mathlib.Decide.{ℕ-discrete}
-use native.Mathlib.Nat.{mod-lt}
+use native.Mathlib.Nat.{mod-lt, div-add-mod'}
 use lib.Dec.{eqb}
 use lib.ListN.{getD}
 use borrow.Author.Tests.{eq-eqb, ne-eqb, lt-ltb, le-ltb}
-use Rattle.laws.proofs.Slots.{slot-lt, slot-div}
+use Rattle.laws.proofs.Slots.{slot-lt, slot-div, slot-mod, back-then-on-by}
 use Rattle.tables.specs.declared.BaseGraph.{BaseGraph}
-use Rattle.matrix.specs.Edges.{parityRow, edgeRow, edgeColumn, edgeShift, bitAt}
+use Rattle.matrix.specs.Edges.{parityRow, edgeRow, edgeColumn, edgeShift, bitAt, slotOf}
 
 -- from the parity edge 3 on: the row j at the edge 2j + 1, and j - 1 at the edge 2j + 2
 pub stair-row : (m p : ℕ) → 3 ≤ p → parityRow m p ≡ (p - 1) / 2 - (p + 1) % 2
@@ -55,3 +55,19 @@ module _ (g : BaseGraph) (z b t : ℕ) (lift : 0 < z) where
   pub bit-lt : (n : ℕ) → edgeColumn g b < n → bitAt g z b t < n * z
   unfolding bitAt
   bit-lt n h = slot-lt h (mod-lt (t + edgeShift g b) lift)
+
+-- the slot at which base edge b joins bit v of its column
+module _ (g : BaseGraph) (z b v : ℕ) (lift : 0 < z) where
+  pub slot-below : (n : ℕ) → b < n → slotOf g z b v < n * z
+  unfolding slotOf
+  slot-below n h = slot-lt h (mod-lt (v % z + z - edgeShift g b % z) lift)
+
+  pub slot-edge : slotOf g z b v / z ≡ b
+  unfolding slotOf
+  slot-edge = slot-div b z _ (mod-lt (v % z + z - edgeShift g b % z) lift)
+
+  pub slot-bit : edgeColumn g b ≡ v / z → bitAt g z b (slotOf g z b v % z) ≡ v
+  unfolding slotOf bitAt
+  slot-bit e =
+      rw (slot-mod b z _ (mod-lt (v % z + z - edgeShift g b % z) lift), back-then-on-by (edgeShift g b) (v % z) z (mod-lt v lift), e)
+      (div-add-mod' v z)

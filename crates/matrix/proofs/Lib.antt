@@ -3,4 +3,5 @@ pub mod Edges
 pub mod Codeword
 pub mod Words
 pub mod Simple
+pub mod ByRow
 pub mod Members

@@ -1,8 +1,10 @@
 -- The base edges of a graph, by their numbers: 01, "Base edges". Assumes nothing.
 use mathlib.Core.Bool.{cond}
-use Prim.Native.Nat.{ℕ, _+_, _*_, _/_, _%_, _-_}
+use mathlib.Core.List.{List, [], _++_}
+use Prim.Native.Nat.{ℕ, zero, suc, _+_, _*_, _/_, _%_, _-_}
 use lib.Dec.{ltb, eqb}
 use lib.ListN.{getD}
+use Rattle.laws.specs.Range.{collect}
 use Rattle.tables.specs.declared.BaseGraph.{BaseGraph}
 
 -- three in each information column, three in column k_b, two in each of the m_b - 1 columns after it
@@ -27,3 +29,16 @@ edgeShift g b = cond (ltb b (3 * g .shape .«k_b»)) (getD (g .shifts) b 0) (con
 -- the bit that base edge b joins to the check at offset t of its base row, at lift z: Fossorier's circulant
 unfoldable pub bitAt : BaseGraph → ℕ → ℕ → ℕ → ℕ
 bitAt g z b t = edgeColumn g b * z + (t + edgeShift g b) % z
+
+-- the base edges of base row r, in rising number
+unfoldable pub rowEdges : BaseGraph → ℕ → List ℕ
+rowEdges g r = collect (λ b. eqb (edgeRow g b) r) (λ b. b) (edges g)
+
+-- those of the first n base rows, row after row
+unfoldable pub edgesByRow : BaseGraph → ℕ → List ℕ
+edgesByRow g zero = []
+edgesByRow g (suc n) = edgesByRow g n ++ rowEdges g n
+
+-- 01, "Work memory": the slot, b * z + t, at which base edge b joins bit v of its column; t turned by the shift is v's offset
+unfoldable pub slotOf : BaseGraph → ℕ → ℕ → ℕ → ℕ
+slotOf g z b v = b * z + (v % z + z - edgeShift g b % z) % z

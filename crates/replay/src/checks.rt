@@ -1,9 +1,9 @@
 // The base edges and the check lists of a code.
-use crate::inputs::print_summed;
-use crate::inputs::sum_step;
 use ldpc::Code;
 use ldpc::Counted;
 use ldpc::EdgeAt;
+use text::print_summed;
+use text::sum_step;
 
 // No code has 200 base edges: all are asked for, and some past the last.
 pub fn print_edges(c: Code) {

@@ -1,42 +1,20 @@
 // Encodings, and unsatisfied counts of words.
-use crate::inputs::fill;
 use crate::inputs::flip;
-use crate::inputs::print_summed;
-use crate::inputs::sum_step;
 use ldpc::Code;
 use ldpc::Counted;
 use ldpc::Encoded;
+use readings::fill_bits;
 ghost use mathlib.Core.Path.{_≡_};
 ghost use Prim.Native.Nat.{_≤_};
 ghost use lib.ListN.{length};
 ghost use Rattle.ldpc.specs.Calls.{encodeWritten};
-ghost use Rattle.replay.specs.Inputs.{randomBits, changed};
-
-// The checksum of a word.
-fn print_word_sum(word: &[u8]) {
-    let mut h = 0;
-    let mut i = 0;
-    while i < word.len() {
-        h = sum_step(h, numbers::wide8(word[i]));
-        i += 1;
-    }
-    print_summed(b"sum ", h, word.len());
-}
-
-// A word of up to 200 bits as it is, a longer one by its checksum.
-fn print_word(word: &[u8]) {
-    if word.len() <= 200 {
-        text::print_bits(word);
-        text::print_bytes(b"\n");
-    } else {
-        print_word_sum(word);
-    }
-}
+ghost use Rattle.readings.specs.Generator.{randomBits};
+ghost use Rattle.replay.specs.Inputs.{changed};
 
 fn print_encoded(answer: Encoded, word: &[u8]) {
     text::print_bytes(b"encoding ");
     match answer {
-        Encoded::Done => print_word(word),
+        Encoded::Done => text::print_word(word, 200),
         Encoded::Refused(r) => text::print_refusal(r, b'\n'),
     }
 }
@@ -76,7 +54,7 @@ fn print_answers(c: Code, seed: usize, info: &mut [u8], word: &mut [u8])
     ensures { λ _. ⌜ now (info .exit) ≡ randomBits seed (length (now (info .entry))) ⌝ }
     ensures { λ _. ⌜ now (word .exit) ≡ changed (encodeWritten c (randomBits seed (length (now (info .entry)))) (now (word .entry))) ⌝ }
 {
-    fill(info, seed);
+    fill_bits(info, seed);
     let answer = c.encode(info, word);
     print_encoded(answer, word);
     print_changed(c, word);
@@ -123,6 +101,6 @@ pub fn print_unsatisfied(c: Code, seed: usize) {
         return;
     }
     let mut word: [u8; 1050] = [1; 1050];
-    fill(&mut word[..n], seed);
+    fill_bits(&mut word[..n], seed);
     print_counts(c, n, &word);
 }

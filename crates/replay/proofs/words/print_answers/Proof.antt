@@ -3,8 +3,8 @@ use borrow.Author.Needs.{needs}
 use Rattle.replay.proofs.words.print_answers.Statement.{statement}
 use Rattle.replay.proofs.words.print_answers.Tie as tie
 
-fill-requires : tie.Need-fill-requires
-fill-requires c κs = search needs
+fill-bits-requires : tie.Need-fill-bits-requires
+fill-bits-requires c κs = search needs
 
 encode-requires : tie.Need-encode-requires
 encode-requires c κs = search needs
@@ -29,13 +29,13 @@ returns c =
     let changed = c .before .before .before .before in
     let encoded = changed .before .before .before .before .before .before in
     let filled = encoded .before .before .before .before .before in
-    (filled .fill .ensures, rw (changed .print-changed .ensures, encoded .encode .ensures .1, filled .fill .ensures))
+    (filled .fill-bits .ensures, rw (changed .print-changed .ensures, encoded .encode .ensures .1, filled .fill-bits .ensures))
 
 pub print-answers-spec : {M : Type 1} → statement M
 print-answers-spec =
     tie.close
     (tie.spec
-    fill-requires
+    fill-bits-requires
     encode-requires
     print-encoded-requires
     print-changed-requires

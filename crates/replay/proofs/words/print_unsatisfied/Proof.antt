@@ -18,18 +18,18 @@ returns c = search needs
 array-borrow-prefix-word : tie.Need-array-borrow-prefix-word
 array-borrow-prefix-word c = search needs
 
-slice-aggregate-fill : tie.Need-slice-aggregate-fill
-slice-aggregate-fill c = sym (length-take-le _ (replicate 1050 1) (omega arith))
+slice-aggregate-fill-bits : tie.Need-slice-aggregate-fill-bits
+slice-aggregate-fill-bits c = sym (length-take-le _ (replicate 1050 1) (omega arith))
 
-fill-requires : tie.Need-fill-requires
-fill-requires c κs = search needs
+fill-bits-requires : tie.Need-fill-bits-requires
+fill-bits-requires c κs = search needs
 
 -- the array with a front filled is as long as it was
 whole : (c : tie.After-word3)
-    → length (c .before .before .fill .last .0 ++ drop (c .before .before .before .before .before .coded-bits .result) (replicate 1050 1)) ≡ 1050
+    → length (c .before .before .fill-bits .last .0 ++ drop (c .before .before .before .before .before .coded-bits .result) (replicate 1050 1)) ≡ 1050
 whole c =
     let n = c .before .before .before .before .before .coded-bits .result in
-    length-front {A = ℕ} (replicate 1050 1) (c .before .before .fill .last .0) n (c .before .before .fill .kept .0)
+    length-front {A = ℕ} (replicate 1050 1) (c .before .before .fill-bits .last .0) n (c .before .before .fill-bits .kept .0)
 
 slice-aggregate-print-counts : tie.Need-slice-aggregate-print-counts
 slice-aggregate-print-counts c = sym (whole c)
@@ -47,8 +47,8 @@ print-unsatisfied-spec =
     coded-bits-requires
     returns
     array-borrow-prefix-word
-    slice-aggregate-fill
-    fill-requires
+    slice-aggregate-fill-bits
+    fill-bits-requires
     slice-aggregate-print-counts
     print-counts-requires
     returns-2)

@@ -1,0 +1,79 @@
+-- Demand 3: every accepted read, whatever its record and its memory, shows clean exactly when it shows converged and its word is the
+-- encoding of its own information bits. Assumes nothing.
+use mathlib.Core.Path.{_≡_, sym, subst}
+use mathlib.Core.Bool.{Bool, true, false, cond, and-eq-true-iff}
+use mathlib.Core.Logic.{_↔_}
+use mathlib.Core.List.{List}
+use Prim.Native.Nat.{ℕ, _+_, _-_, _≤_}
+use native.Mathlib.Omega.{arith}
+use borrow.Author.Tests.{eq-eqb, eqb-true}
+use lib.Dec.{ltb, eqb}
+use lib.ListN.{length, take}
+use lib.Ieee.{Float}
+use Rattle.refusals.specs.Told.{Told, gave, after}
+use Rattle.laws.specs.Written.{tabulate}
+use Rattle.laws.proofs.Written.{length-tabulate, getD-tabulate}
+use Rattle.matrix.specs.Encoding.{bit}
+use Rattle.messages.specs.Iteration.{decision}
+use Rattle.ldpc.specs.declared.choice.Code.{Code}
+use Rattle.ldpc.specs.Choice.{made}
+use Rattle.ldpc.specs.Code.{codeGraph, infoEnd}
+use Rattle.ldpc.specs.Sums.{Bits}
+use Rattle.ldpc.specs.Calls.{unsatisfiedOf, encodingOf}
+use Rattle.ldpc.proofs.Theorems.{codeword}
+use Rattle.decoder.specs.declared.record.Decode.{Decode}
+use Rattle.decoder.specs.declared.record.DecodeResult.{DecodeResult}
+use Rattle.decoder.specs.Decoding.{progressOf, wordOf, resultOf}
+use Rattle.decoder.specs.Calls.{readTold, readWritten}
+use Rattle.decoder.proofs.Cases.{made-cases, length-cases, work-cases, never}
+
+bit-most : (b : Bool) → bit b ≤ 1
+bit-most true = omega arith
+bit-most false = omega arith
+
+bits-of : (p : ℕ → Bool) (n : ℕ) → Bits (tabulate (λ i. bit (p i)) n)
+bits-of p n i h = rw (getD-tabulate 0 (λ i. bit (p i)) n i (rw length-tabulate at h)) (bit-most (p i))
+
+-- a word that is read is of the block's length, and bits
+word-long : (c : Code) (w : List Float) → length (wordOf c w) ≡ c .«n_tx»
+unfolding wordOf
+word-long c w = length-tabulate _ (c .«n_tx»)
+
+pub word-bits : (c : Code) (w : List Float) → Bits (wordOf c w)
+unfolding wordOf
+word-bits c w = bits-of (λ i. decision (codeGraph c) (c .z) w (cond (ltb i (c .k)) i (infoEnd c + (i - c .k)))) (c .«n_tx»)
+
+-- an accepted read had a code that Choice gives
+read-given : (d : Decode) (w : List Float) (room : ℕ) (x : DecodeResult) → readTold d w room ≡ gave x
+    → (made (d .code) ≡ true) × (resultOf (d .code) (progressOf d w) ≡ x)
+unfolding readTold
+read-given d w room x =
+    made-cases P never (d .code)
+    (λ m. length-cases P never 9 room (d .code .«n_tx»)
+    (λ l. work-cases P never (d .code) (length w) (λ h e. (m, cc))))
+  where
+    P : Told DecodeResult → Type 0
+    P t = t ≡ gave x → (made (d .code) ≡ true) × (resultOf (d .code) (progressOf d w) ≡ x)
+
+-- the encoding of its own information bits
+Encoded : Code → List ℕ → Type 0
+Encoded c word = word ≡ encodingOf c (take (c .k) word)
+
+-- the codeword theorem, of the word that is read
+clean-result : (d : Decode) (w : List Float) → made (d .code) ≡ true
+    → (resultOf (d .code) (progressOf d w) .clean ≡ true) ↔ ((d .converged ≡ true) × Encoded (d .code) (wordOf (d .code) w))
+unfolding resultOf progressOf Encoded
+clean-result d w m =
+    let word = codeword (d .code) m (wordOf (d .code) w) (word-long (d .code) w) (word-bits (d .code) w) in
+    let both = and-eq-true-iff (d .converged) (eqb (unsatisfiedOf (d .code) (wordOf (d .code) w)) 0) in
+    (λ e. (both .0 e .0, word .0 (eqb-true _ 0 (both .0 e .1))), λ k. both .1 (k .0, eq-eqb _ 0 (word .1 (k .1))))
+
+pub clean : (d : Decode) (w : List Float) (out : List ℕ) (x : DecodeResult) → readTold d w (length out) ≡ gave x
+    → (x .clean ≡ true)
+    ↔ ((x .converged ≡ true) × (readWritten d w out ≡ encodingOf (d .code) (take (d .code .k) (readWritten d w out))))
+unfolding readWritten Encoded resultOf progressOf
+clean d w out x e =
+    let (m, is) = read-given d w (length out) x e in
+    subst (λ (r : DecodeResult). (r .clean ≡ true) ↔ ((r .converged ≡ true) × Encoded (d .code) (readWritten d w out))) is
+    (subst (λ (t : Told DecodeResult). (resultOf (d .code) (progressOf d w) .clean ≡ true)
+    ↔ ((d .converged ≡ true) × Encoded (d .code) (after t (wordOf (d .code) w) out))) (sym e) (clean-result d w m))

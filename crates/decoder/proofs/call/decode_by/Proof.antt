@@ -1,0 +1,107 @@
+-- `decode_by` meets its contract: each way out by the tests before it. Assumes nothing.
+use mathlib.Core.Path.{_≡_, sym, ap, subst, _∙_}
+use native.Mathlib.Omega.{arith}
+use borrow.Author.Needs.{needs}
+use lib.ListN.{length}
+use Rattle.ldpc.proofs.Refused.{length-passed, length-refused}
+use Rattle.decoder.proofs.Started.{ready}
+use Rattle.decoder.specs.Calls.{decodedBy, memoryBy, writtenBy}
+use Rattle.refusals.specs.Told.{gave}
+use Rattle.decoder.proofs.Steps.{one-run}
+use Rattle.decoder.proofs.Refused.{work-passed, work-refused}
+use Rattle.minsum.specs.Lent.{Ready}
+use Rattle.minsum.proofs.Lent.{ready-still}
+use Rattle.decoder.proofs.call.decode_by.Tie as tie
+use Rattle.decoder.proofs.call.decode_by.Statement.{statement}
+
+returns : tie.Need-returns
+unfolding decodedBy memoryBy writtenBy
+returns c =
+    let start = c .before .before .before .before in
+    let e = length-refused _ 5 (length (start .args .rx .now)) (start .args .c .«n_tx») (c .if1 .taken) in
+    (sym e, (rw e, rw e))
+
+returns-2 : tie.Need-returns-2
+unfolding decodedBy memoryBy writtenBy
+returns-2 c =
+    let start = c .before .before .before .before .before in
+    let e = length-passed _ 5 (length (start .args .rx .now)) (start .args .c .«n_tx») (c .before .if1 .left)
+    ∙ length-refused _ 9 (length (start .args .out .now)) (start .args .c .«n_tx») (c .if2 .taken) in
+    (sym e, (rw e, rw e))
+
+sizes-of-requires : tie.Need-sizes-of-requires
+sizes-of-requires c κs = search needs
+
+work-needed-requires : tie.Need-work-needed-requires
+work-needed-requires c κs = search needs
+
+returns-3 : tie.Need-returns-3
+unfolding decodedBy memoryBy writtenBy
+returns-3 c =
+    let start = c .before .before .before .before .before .before .before .before in
+    let k = c .before .work-needed .ensures in
+    let e = length-passed _ 5 (length (start .args .rx .now)) (start .args .c .«n_tx») (c .before .before .before .before .if1 .left)
+    ∙ length-passed _ 9 (length (start .args .out .now)) (start .args .c .«n_tx») (c .before .before .before .if2 .left)
+    ∙ work-refused _ (start .args .c) (length (start .args .work .now)) (rw k at (c .if3 .taken)) in
+    (rw k (sym e), (rw e, rw e))
+
+begin-requires : tie.Need-begin-requires
+begin-requires c κs =
+    let start = c .before .before .before .before .before .before .before .before .before in (
+      ready (start .args .c) (c .before .before .before .sizes-of .result) (c .before .before .work-needed .result) (length (start .args .work .now)) (start .pre) (c .before .before .before .sizes-of .ensures)
+          (c .before .before .work-needed .ensures) (omega (arith, c .before .if3 .left)),
+      c .before .before .before .before .before .if1 .left,
+    )
+
+go-on-requires : tie.Need-go-on-requires
+go-on-requires c κs =
+    let start = c .before .before .before .before .before .before .before .before .before .before .before .before .before in
+    let R = ready (start .args .c) (c .before .before .before .before .before .before .before .sizes-of .result) (c .before .before .before .before .before .before .work-needed .result) (length (start .args .work .now)) (start .pre) (c .before .before .before .before .before .before .before .sizes-of .ensures)
+    (c .before .before .before .before .before .before .work-needed .ensures) (omega (arith, c .before .before .before .before .before .if3 .left)) in
+    (ready-still R (c .before .before .before .begin .kept .1 .1 .1 .0), omega arith)
+
+write-result-requires : tie.Need-write-result-requires
+write-result-requires c κs =
+    let start = c .before .before .before .before .before .before .before .before .before .before .before .before .before .before .before .before .before .before in
+    let s = c .before .before .before .before .before .before .before .before .before .before .before .before .sizes-of .result in
+    let R = ready (start .args .c) s (c .before .before .before .before .before .before .before .before .before .before .before .work-needed .result) (length (start .args .work .now)) (start .pre) (c .before .before .before .before .before .before .before .before .before .before .before .before .sizes-of .ensures)
+    (c .before .before .before .before .before .before .before .before .before .before .before .work-needed .ensures) (omega (arith, c .before .before .before .before .before .before .before .before .before .before .if3 .left)) in
+    let O = one-run (start .args .c) (start .args .rx .now) (start .args .work .now) _ _ (start .args .limit) (c .before .before .before .before .go-on .result) (c .before .before .before .before .before .before .before .before .begin .ensures) (c .before .before .before .before .go-on .ensures) in
+    let e = sym (O .code-is) in (
+      subst (λ x. Ready x s (length (c .before .before .before .before .go-on .last .1 .1 .1 .0))) e (ready-still R (c .before .before .before .before .go-on .kept .1 .1 .1 .0 ∙ c .before .before .before .before .before .before .before .before .begin .kept .1 .1 .1 .0)),
+      subst (λ x. length (start .args .out .now) ≡ x .«n_tx») e (c .before .before .before .before .before .before .before .before .before .before .before .before .before .if2 .left),
+    )
+
+same-length : tie.Need-same-length
+same-length c = search needs
+
+same-length-2 : tie.Need-same-length-2
+same-length-2 c = search needs
+
+returns-4 : tie.Need-returns-4
+unfolding decodedBy memoryBy writtenBy
+returns-4 c =
+    let start = c .before .before .before .before .before .before .before .before .before .before .before .before .before .before .before .before .before .before .before .before .before in
+    let O = one-run (start .args .c) (start .args .rx .now) (start .args .work .now) _ _ (start .args .limit) (c .before .before .before .before .before .before .before .go-on .result) (c .before .before .before .before .before .before .before .before .before .before .before .begin .ensures) (c .before .before .before .before .before .before .before .go-on .ensures) in
+    let k = c .before .before .before .before .before .before .before .before .before .before .before .before .before .before .work-needed .ensures in
+    let W = c .before .before .write-result .ensures in
+    let e = length-passed _ 5 (length (start .args .rx .now)) (start .args .c .«n_tx») (c .before .before .before .before .before .before .before .before .before .before .before .before .before .before .before .before .before .if1 .left)
+    ∙ length-passed _ 9 (length (start .args .out .now)) (start .args .c .«n_tx») (c .before .before .before .before .before .before .before .before .before .before .before .before .before .before .before .before .if2 .left)
+    ∙ work-passed _ (start .args .c) (length (start .args .work .now)) (omega (arith, k, c .before .before .before .before .before .before .before .before .before .before .before .before .before .if3 .left)) in
+    (ap gave (W .0 ∙ O .result-is) ∙ sym e, (rw e (O .memory-is), rw e (W .1 ∙ O .word-is)))
+
+pub decode-by-spec : {M : Type 1} → statement M
+decode-by-spec =
+    tie.close
+    (tie.spec
+    returns
+    returns-2
+    sizes-of-requires
+    work-needed-requires
+    returns-3
+    begin-requires
+    go-on-requires
+    write-result-requires
+    same-length
+    same-length-2
+    returns-4)

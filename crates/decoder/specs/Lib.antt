@@ -1,0 +1,4 @@
+pub mod Decoding
+pub mod Calls
+pub mod Claim
+pub mod Runs

@@ -1,0 +1,1 @@
+// No code: one iteration of min-sum over the work memory, and its laws.

@@ -1,0 +1,4 @@
+pub mod Inputs
+pub mod Totals
+pub mod Compare
+pub mod Calls

@@ -1,0 +1,2 @@
+-- The check over the starred rows. Assumes nothing.
+pub mod Table

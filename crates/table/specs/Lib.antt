@@ -1,0 +1,2 @@
+-- The starred rows of the commissioning table. Assumes nothing.
+pub mod Table
