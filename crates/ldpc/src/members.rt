@@ -1,4 +1,5 @@
-// The transmitted members of a check, and how many checks a word does not meet.
+// The transmitted members of a check, and how many checks a word does not meet. What `unmet_checks` requires, its callers
+// in this and the decoder's crate meet.
 use crate::choice::Code;
 use refusals::Refusal;
 use tables::Shape;
