@@ -1,6 +1,7 @@
-//! What crates/commission prints: the codes, the encodings and the decodes of 01's commissioning table, each as the Rust
+//! What crates/commission prints: the codes, the encodings, the decodes and the four-cycles of 01's commissioning table, each as the Rust
 //! answers it, held to what 01 says of it.
-use crate::{digits, family, refused};
+use super::{digits, family, refused};
+use crate::{four_cycles, Base};
 use lcr_core::ecc::ldpc::Code;
 use std::fmt::Write;
 
@@ -160,6 +161,21 @@ fn decoding(d: &Decoding) -> String {
     format!("{}{asked}: {answer}", if d.starred { "*" } else { "" })
 }
 
+/// The row of two columns and their four-cycles at two lifts.
+fn cycles() -> String {
+    let info = vec![[(0, 0), (1, 0), (2, 0)], [(0, 0), (1, 0), (2, 1)]];
+    let b = Base { n_b: 5, k_b: 2, m_b: 3, info };
+    let counts = (four_cycles(&b, 5), four_cycles(&b, 1));
+    assert_eq!(counts, (1, 3), "the four-cycles of 01's two columns");
+    let columns: Vec<String> = b.info.iter().map(|c| pairs(c)).collect();
+    let (at_5, at_1) = counts;
+    format!("columns {}, n_b 5: four-cycles at z 5: {at_5}, at z 1: {at_1}", columns.join(" and "))
+}
+
+fn pairs(column: &[(u8, u16)]) -> String {
+    column.iter().map(|(r, s)| format!("({r},{s})")).collect()
+}
+
 pub fn text() -> String {
     let mut text = String::new();
     for row in CODES {
@@ -171,5 +187,6 @@ pub fn text() -> String {
     for d in &DECODES {
         writeln!(text, "{}", decoding(d)).unwrap();
     }
+    writeln!(text, "{}", cycles()).unwrap();
     text
 }

@@ -1,6 +1,6 @@
 //! What crates/decodes prints: see its src/ for the inputs, and crates/readings for the readings, which are computed here
 //! once more.
-use crate::{random, states, word_text};
+use super::{random, states, word_text};
 use lcr_core::ecc::ldpc::Code;
 use std::fmt::Write;
 

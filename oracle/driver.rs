@@ -1,11 +1,14 @@
-//! Prints the answers of the Rust as published, in the plain text that the programs under crates/ print: the argument is
-//! the program's name.
+//! The answers of the Rust as published, in the plain text that the programs under crates/ print. `compare` puts this file
+//! in the place of the module `vectors` of xtask's main.rs, which it builds as it stands: so the functions of main.rs, which are
+//! private there, can be called here. The second argument is the program's name.
 use lcr_core::ecc::{ldpc::Code, tables};
 use lcr_core::error::LcrError;
 use std::fmt::Write;
 
 mod commission;
 mod decodes;
+mod designs;
+mod rebuild;
 mod replay;
 
 /// A line with the family, the rate, n_b, k_b and m_b, then a line for each information column.
@@ -76,12 +79,16 @@ fn word_text(word: &[bool], full: usize) -> String {
     format!("sum {h} count {}", word.len())
 }
 
-fn main() {
-    match std::env::args().nth(1).as_deref() {
-        Some("graphs") => print!("{}", graphs()),
-        Some("replay") => print!("{}", replay::text()),
-        Some("decodes") => print!("{}", decodes::text()),
-        Some("commission") => print!("{}", commission::text()),
+/// xtask prints this for its task `vectors`.
+pub fn report() -> String {
+    let args: Vec<String> = std::env::args().skip(2).collect();
+    match args[0].as_str() {
+        "graphs" => graphs(),
+        "replay" => replay::text(),
+        "decodes" => decodes::text(),
+        "commission" => commission::text(),
+        "rebuild" => rebuild::text(),
+        "designs" => designs::text(args.get(1).map_or("", |s| s)),
         other => panic!("no such program: {other:?}"),
     }
 }

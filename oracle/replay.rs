@@ -1,5 +1,5 @@
 //! What crates/replay prints: see its src/ for the inputs, which are computed here once more.
-use crate::{checksum, family, random, refused, word_text};
+use super::{checksum, family, random, refused, word_text};
 use lcr_core::ecc::ldpc::Code;
 use std::fmt::Write;
 

@@ -8,7 +8,7 @@ use decoder::Granted;
 use decoder::ReadOut;
 use ldpc::Choice;
 use ldpc::Code;
-use ldpc::Counted;
+use refusals::Counted;
 ghost use mathlib.Core.Path.{_≡_};
 ghost use lib.ListN.{length};
 ghost use Rattle.ldpc.specs.Choice.{chosen};

@@ -1,11 +1,11 @@
-// Prints 01's commissioning table in its order, with a star on the rows that are starred there; its last row, on
-// four-cycles, is graph design's and not printed here. The file stdout was written by the oracle, which holds the Rust's
-// answers to what 01 says.
+// Prints 01's commissioning table in its order, with a star on the rows that are starred there. The file stdout was written by
+// the oracle, which holds the Rust's answers to what 01 says.
 mod decodes;
 
 use ldpc::Choice;
 use ldpc::Code;
-use ldpc::Encoded;
+use refusals::Counted;
+use refusals::Filled;
 ghost use mathlib.Core.Path.{_≡_};
 ghost use Rattle.ldpc.specs.Calls.{encodeWritten};
 
@@ -67,8 +67,8 @@ fn print_encoded(c: Code, info: &[u8], word: &mut [u8])
 {
     let answer = c.encode(info, word);
     match answer {
-        Encoded::Done => text::print_bits(word),
-        Encoded::Refused(r) => text::print_refusal(r, b' '),
+        Filled::Done => text::print_bits(word),
+        Filled::Refused(r) => text::print_refusal(r, b' '),
     }
 }
 
@@ -113,10 +113,30 @@ fn print_codes() {
     print_code(false, 0, 19441);
 }
 
+// Of two columns of a graph with 5 base columns.
+fn print_cycles(rows: &[u8], shifts: &[u16], z: usize, after: u8) {
+    text::print_number(z, b':');
+    text::print_bytes(b" ");
+    match graph::four_cycles(5, 2, rows, shifts, z) {
+        Counted::Count(n) => text::print_number(n, after),
+        Counted::Refused(r) => text::print_refusal(r, after),
+    }
+}
+
+fn print_four_cycles() {
+    text::print_bytes(b"columns (0,0)(1,0)(2,0) and (0,0)(1,0)(2,1), n_b 5: four-cycles at z ");
+    let rows: [u8; 6] = [0, 1, 2, 0, 1, 2];
+    let shifts: [u16; 6] = [0, 0, 0, 0, 0, 1];
+    print_cycles(&rows, &shifts, 5, b',');
+    text::print_bytes(b" at z ");
+    print_cycles(&rows, &shifts, 1, b'\n');
+}
+
 fn main() {
     print_codes();
     print_encoding(5, 10, &[1, 0, 0]);
     print_encoding(5, 10, &[0, 1, 0]);
     print_encoding(5, 22, &[1]);
     decodes::print_decodes();
+    print_four_cycles();
 }

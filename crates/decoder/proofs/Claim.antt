@@ -10,22 +10,20 @@ use lib.ListN.{length, take, drop, getD, length-take, take-append-drop}
 use lib.Seq.{take-length}
 use lib.Ieee.{Float, nan}
 use borrow.Author.Tests.{le-ltb}
-use Rattle.refusals.specs.Told.{Told, gave, refused, after}
+use Rattle.refusals.specs.Told.{Told, gave, refused, after, ifLength}
 use Rattle.laws.specs.Run.{Progress, run}
 use Rattle.laws.proofs.Front.{front-lent, front-past}
 use Rattle.laws.proofs.Run.{seen}
 use Rattle.ldpc.specs.declared.choice.Code.{Code}
 use Rattle.ldpc.specs.Choice.{chosen, made}
 use Rattle.ldpc.specs.Code.{workOf}
-use Rattle.ldpc.specs.Calls.{ifLength}
-use Rattle.ldpc.proofs.Refused.{made-passed, length-passed}
+use Rattle.refusals.proofs.Lengths.{length-passed}
+use Rattle.ldpc.proofs.Refused.{made-passed}
 use Rattle.decoder.specs.declared.record.Decode.{Decode}
 use Rattle.decoder.specs.declared.record.DecodeResult.{DecodeResult}
 use Rattle.decoder.specs.Decoding.{alpha, startMemory, iterated, unbroken, recordOf, progressOf, wordOf, resultOf}
-use Rattle.decoder.specs.Calls.{ifWork, ifSum, startTold, startWritten, grantTold, grantWritten, readTold, readWritten}
-use Rattle.decoder.specs.Calls.{decodedBy, memoryBy, writtenBy, decodeTold, decodeMemory, decodeWritten}
-use Rattle.decoder.specs.Claim.{Call, grant, read, granted, readOut, Held, returned, begun, answerOf, heldAfter, answers, afterAll}
-use Rattle.decoder.specs.Claim.{owedGrant, owedRead, owedAnswer, sumAfter, owed, sumOf, heldAt}
+use Rattle.decoder.specs.Calls.{ifWork, ifSum, startTold, startWritten, grantTold, grantWritten, readTold, readWritten, decodedBy, memoryBy, writtenBy, decodeTold, decodeMemory, decodeWritten}
+use Rattle.decoder.specs.Claim.{Call, grant, read, granted, readOut, Held, returned, begun, answerOf, heldAfter, answers, afterAll, owedGrant, owedRead, owedAnswer, sumAfter, owed, sumOf, heldAt}
 use Rattle.decoder.proofs.Whole.{start-front, unbroken-add, unbroken-front, iterated-lent, word-lent}
 use Rattle.decoder.proofs.Cases.{made-cases, length-cases, work-cases, sum-cases, work-same, never}
 

@@ -15,10 +15,10 @@ use Rattle.laws.specs.Written.{tabulate}
 use Rattle.laws.proofs.Written.{length-tabulate, getD-tabulate}
 use Rattle.matrix.specs.Encoding.{bit}
 use Rattle.messages.specs.Iteration.{decision}
+use Rattle.bits.specs.Sums.{Bits}
 use Rattle.ldpc.specs.declared.choice.Code.{Code}
 use Rattle.ldpc.specs.Choice.{made}
 use Rattle.ldpc.specs.Code.{codeGraph, infoEnd}
-use Rattle.ldpc.specs.Sums.{Bits}
 use Rattle.ldpc.specs.Calls.{unsatisfiedOf, encodingOf}
 use Rattle.ldpc.proofs.Theorems.{codeword}
 use Rattle.decoder.specs.declared.record.Decode.{Decode}

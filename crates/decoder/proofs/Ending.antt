@@ -10,9 +10,9 @@ use lib.ListN.{length, take, getD, length-take}
 use lib.Ieee.{Float, nan}
 use Rattle.refusals.specs.Told.{Told, gave, after}
 use Rattle.laws.proofs.Floats.{Sided}
+use Rattle.bits.specs.Sums.{Bits}
 use Rattle.ldpc.specs.declared.choice.Code.{Code}
 use Rattle.ldpc.specs.Code.{workOf}
-use Rattle.ldpc.specs.Sums.{Bits}
 use Rattle.ldpc.specs.Calls.{encodingOf}
 use Rattle.decoder.specs.declared.record.Decode.{Decode}
 use Rattle.decoder.specs.declared.record.DecodeResult.{DecodeResult}

@@ -28,14 +28,14 @@ use Rattle.matrix.proofs.Words.{lifted-parity, bit-of, length-encoding, encodin
 use Rattle.messages.specs.Memory.{bitsOf, slotsOf, toChecks, toBits, needed, reading}
 use Rattle.messages.specs.Iteration.{iteration, decision, settled}
 use Rattle.messages.proofs.Noiseless.{decides, settles}
+use Rattle.bits.specs.Sums.{Bits}
+use Rattle.bits.proofs.Bytes.{bit-most}
 use Rattle.ldpc.specs.declared.choice.Code.{Code}
 use Rattle.ldpc.specs.Choice.{made}
 use Rattle.ldpc.specs.Code.{codeGraph, infoEnd, checksOf, workOf}
-use Rattle.ldpc.specs.Sums.{Bits}
 use Rattle.ldpc.specs.Calls.{unsatisfiedOf, encodingOf}
 use Rattle.ldpc.proofs.Made.{sized}
 use Rattle.ldpc.proofs.CodeEdges.{code-simple}
-use Rattle.ldpc.proofs.Summed.{bit-most}
 use Rattle.ldpc.proofs.Encoded.{encoded-length}
 use Rattle.ldpc.proofs.Theorems.{codeword}
 use Rattle.decoder.proofs.Regions.{length-all, sent-at, channel-at}

@@ -3,9 +3,8 @@ use mathlib.Core.List.{List, [], _∷_, _++_}
 use Prim.Native.Nat.{ℕ, _+_, min}
 use lib.ListN.{length, take, drop}
 use lib.Ieee.{Float}
-use Rattle.refusals.specs.Told.{Told, gave, refused, after}
+use Rattle.refusals.specs.Told.{Told, gave, refused, after, ifLength}
 use Rattle.ldpc.specs.declared.choice.Code.{Code}
-use Rattle.ldpc.specs.Calls.{ifLength}
 use Rattle.decoder.specs.declared.record.Decode.{Decode}
 use Rattle.decoder.specs.declared.record.DecodeResult.{DecodeResult}
 use Rattle.decoder.specs.Decoding.{alpha, unbroken, recordOf, wordOf, resultOf}

@@ -1,1 +1,2 @@
+-- The inputs of the decodes. Assumes nothing.
 pub mod Inputs

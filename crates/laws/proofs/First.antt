@@ -15,6 +15,12 @@ pub record Least (p : ℕ → Bool) (n r : ℕ) : Type 0 where
   pub before : (k : ℕ) → k < r → p k ≡ false
   pub has : r < n → p r ≡ true
 
+-- tests that agree below n
+pub first-ext : (p q : ℕ → Bool) (n : ℕ) → ((k : ℕ) → k < n → p k ≡ q k) → first p n ≡ first q n
+unfolding first
+first-ext p q zero e = refl
+first-ext p q (suc n) e = rw (e n (omega arith), first-ext p q n (λ k h. e k (omega arith)))
+
 module _ (p : ℕ → Bool) where
   pub first-none : (n : ℕ) → ((k : ℕ) → k < n → p k ≡ false) → first p n ≡ n
   unfolding first

@@ -16,11 +16,11 @@ use Rattle.tables.proofs.Columns as Columns
 use Rattle.matrix.specs.Edges.{edges, edgeRow, edgeColumn, edgeShift}
 use Rattle.matrix.proofs.Edges.{parity-shift}
 use Rattle.matrix.proofs.Simple.{Simple, simple}
+use Rattle.bits.specs.declared.edge.Edge.{Edge}
+use Rattle.bits.specs.Edge.{graphIn, edgesIn, edgeOf}
 use Rattle.ldpc.specs.declared.choice.Code.{Code}
-use Rattle.ldpc.specs.declared.edge.Edge.{Edge}
 use Rattle.ldpc.specs.Choice.{made}
 use Rattle.ldpc.specs.Code.{codeGraph}
-use Rattle.ldpc.specs.Edge.{graphIn, edgesIn, edgeOf}
 use Rattle.ldpc.proofs.Made.{sized}
 
 third : (p : ℕ) → cond (eqb p 2) 1 0 < 512

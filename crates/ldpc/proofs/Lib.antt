@@ -1,7 +1,7 @@
+-- The laws of codes, and their theorems. Assumes nothing.
 pub mod Lift
 pub mod Chosen
 pub mod Made
-pub mod Turned
 pub mod Parts
 pub mod Summed
 pub mod CodeEdges

@@ -19,11 +19,14 @@ use Rattle.laws.proofs.Slots.{slot-lt, slot-div, slot-mod, slot-is, on-then-bac
 use Rattle.matrix.specs.Checks.{rowSum, lifted}
 use Rattle.matrix.proofs.Words.{of-bit}
 use Rattle.matrix.specs.Encoding.{infoSum, totalSum, firstParity, parityBit, bit}
+use Rattle.bits.specs.Sums.{differing}
+use Rattle.bits.specs.Rows.{Holds, Stepped}
+use Rattle.bits.proofs.Bytes.{differing-bits}
 use Rattle.ldpc.specs.declared.choice.Code.{Code}
 use Rattle.ldpc.specs.Code.{codeGraph, infoEnd, checksOf}
-use Rattle.ldpc.specs.Sums.{differing, sumsOf}
-use Rattle.ldpc.specs.Stairs.{Holds, sumBit, totalBit, stairBit, stairs, Stepped}
-use Rattle.ldpc.proofs.Summed.{differing-bits, length-sums, at-sums}
+use Rattle.ldpc.specs.Sums.{sumsOf}
+use Rattle.ldpc.specs.Stairs.{sumBit, totalBit, stairBit, stairs}
+use Rattle.ldpc.proofs.Summed.{length-sums, at-sums}
 
 cond-bit : (b x : Bool) → cond b (bit x) 0 ≡ bit (b && x)
 cond-bit true x = refl

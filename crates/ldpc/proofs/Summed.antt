@@ -1,13 +1,13 @@
 -- The sums over the base edges: with none, and with one edge more. Assumes nothing.
 use mathlib.Core.Path.{_≡_, refl, sym, ap, ap₂, _∙_, subst}
-use mathlib.Core.Bool.{Bool, true, false, xor}
+use mathlib.Core.Bool.{Bool, xor}
 use mathlib.Core.List.{List}
-use Prim.Native.Nat.{ℕ, _+_, _*_, _/_, _%_, _<_, _≤_}
+use Prim.Native.Nat.{ℕ, _+_, _*_, _/_, _%_, _<_}
 use native.Mathlib.Omega.{arith}
 use native.Mathlib.Nat.{zero-add, mod-lt, add-mod-mod}
 use native.Mathlib.Numerals.{add-one}
-use native.Mathlib.Decide.{decLt, ℕ-discrete}
-use borrow.Author.Tests.{lt-ltb, le-ltb, eq-eqb, ne-eqb}
+use native.Mathlib.Decide.{ℕ-discrete}
+use borrow.Author.Tests.{eq-eqb, ne-eqb}
 use lib.Dec.{eqb}
 use lib.ListN.{length, getD}
 use lib.Seq.{ext-getD}
@@ -21,30 +21,14 @@ use Rattle.matrix.specs.Edges.{edges, edgeRow, edgeColumn, edgeShift, bitAt}
 use Rattle.matrix.specs.Checks.{rowSum, checkSum, unmet, lifted}
 use Rattle.matrix.specs.Encoding.{bit}
 use Rattle.matrix.proofs.Words.{bit-of, of-bit}
+use Rattle.bits.specs.declared.sums.Part.{Part}
+use Rattle.bits.specs.Sums.{differing, byteIn, Bits, AddedTurned}
+use Rattle.bits.specs.Words.{onesIn}
+use Rattle.bits.proofs.Bytes.{differing-bits, bit-most, byte-in}
 use Rattle.ldpc.specs.declared.choice.Code.{Code}
-use Rattle.ldpc.specs.declared.sums.Part.{Part}
 use Rattle.ldpc.specs.Code.{codeGraph, infoEnd, checksOf}
-use Rattle.ldpc.specs.Members.{onesIn}
 use Rattle.ldpc.specs.Calls.{unsatisfiedOf}
-use Rattle.ldpc.specs.Sums.{differing, byteIn, Bits, AddedTurned, PartOf, sumsOf}
-
-pub differing-bits : (a b : Bool) → differing (bit a) (bit b) ≡ bit (xor a b)
-unfolding xor
-differing-bits false false = refl
-differing-bits false true = refl
-differing-bits true false = refl
-differing-bits true true = refl
-
-pub bit-most : (b : Bool) → bit b ≤ 1
-bit-most false = omega arith
-bit-most true = omega arith
-
-byte-in : (word : List ℕ) (part : Part) (p : ℕ) → Bits word → part .from + part .there ≤ length word → byteIn word part p ≤ 1
-byte-in word part p h inside = by (decLt p (part .there))
-  where
-    by : Dec (p < part .there) → byteIn word part p ≤ 1
-    by (yes k) = rw (lt-ltb p (part .there) k) (h (part .from + p) (omega arith))
-    by (no k) = rw (le-ltb p (part .there) (omega arith)) (omega arith)
+use Rattle.ldpc.specs.Sums.{PartOf, sumsOf}
 
 module _ (c : Code) (word : List ℕ) where
   abbrev w : ℕ → Bool

@@ -14,10 +14,10 @@ use Rattle.matrix.specs.Edges.{edges}
 use Rattle.matrix.specs.Checks.{Joins, isSent, placeOf}
 use Rattle.matrix.proofs.Words as Words
 use Rattle.matrix.proofs.Members.{Member, members-sound, members-complete, members-once, members-rise, members-lt}
+use Rattle.bits.specs.Sums.{Bits}
 use Rattle.ldpc.specs.declared.choice.Code.{Code}
 use Rattle.ldpc.specs.Choice.{codeOf, chosen, sameCode, isGiven, made}
 use Rattle.ldpc.specs.Code.{codeGraph, infoEnd, checksOf, workOf}
-use Rattle.ldpc.specs.Sums.{Bits}
 use Rattle.ldpc.specs.Calls.{codeMembers, unsatisfiedOf, encodingOf}
 use Rattle.ldpc.proofs.Made.{chosen-rule, sized}
 use Rattle.ldpc.proofs.CodeEdges.{code-simple}

@@ -2,17 +2,13 @@
 use mathlib.Core.Bool.{cond}
 use mathlib.Core.List.{List, _++_}
 use Prim.Native.Nat.{ℕ}
-use lib.Dec.{ltb, eqb}
+use lib.Dec.{ltb}
 use lib.ListN.{length, getD, drop}
-use Rattle.refusals.specs.Told.{Told, gave, refused, refusedBy, after}
-use Rattle.laws.specs.Range.{first}
+use Rattle.refusals.specs.Told.{Told, gave, refused, after, ifLength}
 use Rattle.matrix.specs.Checks.{unmet, lifted, membersOf}
 use Rattle.matrix.specs.Encoding.{encoding}
+use Rattle.bits.specs.Words.{firstNotBit}
 use Rattle.ldpc.specs.declared.choice.Code.{Code}
-use Rattle.ldpc.specs.declared.members.Counted.{Counted}
-use Rattle.ldpc.specs.declared.members.Counted.the-variants as counted
-use Rattle.ldpc.specs.declared.encode.Encoded.{Encoded}
-use Rattle.ldpc.specs.declared.encode.Encoded.the-variants as encoded
 use Rattle.ldpc.specs.Choice.{made}
 use Rattle.ldpc.specs.Code.{codeGraph, infoEnd, checksOf}
 
@@ -21,16 +17,9 @@ unfoldable pub ifMade : {A : Type 0} → Code → Told A → Told A
 ifMade c rest = cond (made c) rest (refused 11 (c .rate) (c .«n_tx»))
 
 -- refusal 6: the first byte above 1
-unfoldable pub firstNotBit : List ℕ → ℕ
-firstNotBit word = first (λ i. ltb 1 (getD word i 0)) (length word)
-
 unfoldable pub ifBits : {A : Type 0} → List ℕ → Told A → Told A
 ifBits word rest =
     cond (ltb (firstNotBit word) (length word)) (refused 6 (firstNotBit word) (getD word (firstNotBit word) 0)) rest
-
--- refusals 5 and 9: a length that must be exact
-unfoldable pub ifLength : {A : Type 0} → ℕ → ℕ → ℕ → Told A → Told A
-ifLength number given wanted rest = cond (eqb given wanted) rest (refused number given wanted)
 
 -- the transmitted members of a check of a code
 unfoldable pub codeMembers : Code → ℕ → List ℕ
@@ -65,12 +54,3 @@ encodeTold c info room =
 
 unfoldable pub encodeWritten : Code → List ℕ → List ℕ → List ℕ
 encodeWritten c info out = after (encodeTold c info (length out)) (encodingOf c info) out
-
--- the answers' cases
-abbrev pub toldCount : Counted → Told ℕ
-toldCount (counted.Count n) = gave n
-toldCount (counted.Refused r) = refusedBy r
-
-abbrev pub toldDone : Encoded → Told (Unit {0})
-toldDone encoded.Done = gave tt
-toldDone (encoded.Refused r) = refusedBy r

@@ -6,12 +6,12 @@ use lib.IntN.{pos}
 use lib.Ieee.{Float, binary32, div, ofInt, fin}
 use Rattle.tables.specs.declared.Shape.{Shape}
 use Rattle.matrix.specs.Edges.{edges}
+use Rattle.bits.specs.Edge.{edgeOf}
 use Rattle.ldpc.specs.declared.choice.Code.{Code}
-use Rattle.ldpc.specs.declared.edge.EdgeAt.{EdgeAt}
-use Rattle.ldpc.specs.declared.edge.EdgeAt.the-variants.{Edge, None}
+use Rattle.ldpc.specs.declared.getters.EdgeAt.{EdgeAt}
+use Rattle.ldpc.specs.declared.getters.EdgeAt.the-variants.{Edge, None}
 use Rattle.ldpc.specs.Choice.{made}
 use Rattle.ldpc.specs.Code.{codeGraph, checksOf, workOf}
-use Rattle.ldpc.specs.Edge.{edgeOf}
 
 unfoldable pub checksTold : Code → ℕ
 checksTold c = cond (made c) (checksOf c) 0

@@ -1,6 +1,6 @@
+-- Codes: their choice, what their calls tell and write, and the terms of the loops. Assumes nothing.
 pub mod Choice
 pub mod Code
-pub mod Edge
 pub mod Calls
 pub mod Sums
 pub mod Members

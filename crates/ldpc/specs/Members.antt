@@ -1,10 +1,7 @@
 -- A check's members in the terms of the loops that find them. Assumes nothing.
 use mathlib.Core.Bool.{Bool, cond, _&&_}
-use mathlib.Core.List.{List}
 use Prim.Native.Nat.{ℕ, _/_, _%_}
 use lib.Dec.{eqb}
-use lib.ListN.{length, getD}
-use Rattle.laws.specs.Range.{count}
 use Rattle.matrix.specs.Edges.{edgeRow, bitAt}
 use Rattle.matrix.specs.Checks.{isSent, placeOf}
 use Rattle.ldpc.specs.declared.choice.Code.{Code}
@@ -22,7 +19,3 @@ memberPlace c check b = placeOf (c .k) (infoEnd c) (bitAt (codeGraph c) (c .z) b
 
 unfoldable pub memberAt : Code → ℕ → ℕ → Sent
 memberAt c check b = cond (isMember c check b) (Place (memberPlace c check b)) None
-
--- how many bytes are 1
-unfoldable pub onesIn : List ℕ → ℕ
-onesIn l = count (λ i. eqb (getD l i 0) 1) (length l)

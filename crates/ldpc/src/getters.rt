@@ -1,10 +1,16 @@
 // What a code record tells of itself, by the Rust's names. The four fields are answered as they stand; what is computed is
 // 0, or none, for a record that Choice does not give.
 use crate::choice::Code;
-use crate::edge::EdgeAt;
+use bits::Edge;
 use tables::Shape;
 ghost use mathlib.Core.Path.{_≡_};
 ghost use Rattle.ldpc.specs.Getters.{checksTold, shapeTold, rateTold, edgeTold, workTold};
+
+// The answer of `base_edge`.
+pub enum EdgeAt {
+    Edge(Edge),
+    None,
+}
 
 impl Code {
     pub fn info_bits(self) -> usize
@@ -81,7 +87,7 @@ impl Code {
         }
         let rows = g.rows;
         let shifts = g.shifts;
-        EdgeAt::Edge(crate::edge::edge_at(s, &rows, &shifts, b))
+        EdgeAt::Edge(bits::edge_at(s, &rows, &shifts, b))
     }
 
     // How many numbers of work memory a decode needs.

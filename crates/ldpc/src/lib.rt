@@ -1,7 +1,6 @@
 // The codes of ldpc.rs but for decoding: choice, getters, check lists, unsatisfied counts, encoding. Bits are bytes.
 // Whatever a call refuses it leaves as it was. Assumes nothing.
 mod choice;
-mod edge;
 mod encode;
 mod getters;
 mod members;
@@ -9,9 +8,5 @@ mod sums;
 
 pub use choice::Choice;
 pub use choice::Code;
-pub use edge::Edge;
-pub use edge::EdgeAt;
-pub use edge::edge_at;
-pub use encode::Encoded;
-pub use members::Counted;
+pub use getters::EdgeAt;
 pub use members::unmet_checks;

@@ -1,6 +1,7 @@
 // The transmitted members of a check, and how many checks a word does not meet. What `unmet_checks` requires, its callers
 // in this and the decoder's crate meet.
 use crate::choice::Code;
+use refusals::Counted;
 use refusals::Refusal;
 use tables::Shape;
 ghost use mathlib.Core.Path.{_≡_};
@@ -9,18 +10,14 @@ ghost use mathlib.Core.List.{_++_};
 ghost use Prim.Native.Nat.{_<_, _≤_};
 ghost use lib.ListN.{length, drop};
 ghost use Rattle.laws.specs.Range.{count, collect};
+ghost use Rattle.refusals.specs.Told.{toldCount};
 ghost use Rattle.matrix.specs.Edges.{edges};
+ghost use Rattle.bits.specs.Edge.{graphIn};
+ghost use Rattle.bits.specs.Sums.{Bits};
 ghost use Rattle.ldpc.specs.Choice.{made};
 ghost use Rattle.ldpc.specs.Code.{codeGraph, checksOf};
-ghost use Rattle.ldpc.specs.Sums.{Bits};
-ghost use Rattle.ldpc.specs.Edge.{graphIn};
-ghost use Rattle.ldpc.specs.Calls.{firstNotBit, toldCount, listed, listWritten, unsatisfiedOf, unsatisfiedTold};
-ghost use Rattle.ldpc.specs.Members.{isMember, memberPlace, memberAt, onesIn};
-
-pub enum Counted {
-    Count(usize),
-    Refused(Refusal),
-}
+ghost use Rattle.ldpc.specs.Calls.{listed, listWritten, unsatisfiedOf, unsatisfiedTold};
+ghost use Rattle.ldpc.specs.Members.{isMember, memberPlace, memberAt};
 
 // The place of a transmitted bit, where there is one.
 pub enum Sent {
@@ -41,11 +38,11 @@ fn member_at<'a>(
     ensures { λ r. ⌜ r ≡ memberAt c check b ⌝ }
 {
     let z = c.z;
-    let e = crate::edge::edge_at(s, rows, shifts, b);
+    let e = bits::edge_at(s, rows, shifts, b);
     if e.row != check / z {
         return Sent::None;
     }
-    let v = e.column * z + crate::edge::rotated(check % z, e.shift, z);
+    let v = e.column * z + bits::rotated(check % z, e.shift, z);
     if v < c.k {
         return Sent::Place(v);
     }
@@ -106,35 +103,6 @@ fn write_members<'a>(
     }
 }
 
-// The first place with a byte above 1, or the length.
-pub fn first_not_bit(word: &[u8]) -> usize
-    ensures { λ r. ⌜ r ≡ firstNotBit (now (word .entry)) ⌝ }
-{
-    let mut i = 0;
-    while i < word.len() {
-        if 1 < word[i] {
-            return i;
-        }
-        i += 1;
-    }
-    i
-}
-
-// How many bytes are 1.
-fn count_ones(bits: &[u8]) -> usize
-    ensures { λ r. ⌜ r ≡ onesIn (now (bits .entry)) ⌝ }
-{
-    let mut count = 0;
-    let mut i = 0;
-    while i < bits.len() {
-        if bits[i] == 1 {
-            count += 1;
-        }
-        i += 1;
-    }
-    count
-}
-
 // How many checks a word of bits does not meet, its syndrome being written to the front of `room`.
 fn count_unmet(c: Code, word: &[u8], room: &mut [u8]) -> usize
     requires { ⌜ (made c ≡ true) × Bits (now word) × (checksOf c ≤ length (now room)) ⌝ }
@@ -145,7 +113,7 @@ fn count_unmet(c: Code, word: &[u8], room: &mut [u8]) -> usize
     let edges = 3 * s.k_b + 2 * s.m_b + 1;
     let syndrome = &mut room[..n];
     crate::sums::row_sums(c, word, edges, syndrome);
-    count_ones(syndrome)
+    bits::count_ones(syndrome)
 }
 
 // The same, in memory of its own: 39 rows of 324 checks are the most.
@@ -190,7 +158,7 @@ impl Code {
         if !self.is_made() {
             return Counted::Refused(Refusal::Record(self.rate, self.n_tx));
         }
-        let place = first_not_bit(word);
+        let place = bits::first_not_bit(word);
         if place < word.len() {
             return Counted::Refused(Refusal::NotBit(place, numbers::wide8(word[place])));
         }

@@ -10,14 +10,14 @@ use lib.Dec.{eqb}
 use borrow.Author.Tests.{ne-eqb}
 use Rattle.laws.specs.Range.{xorSum}
 use Rattle.laws.proofs.Slots.{slot-lt, slot-div, slot-mod, edge-lt, back-then-on, on-then-back}
-use Rattle.laws.proofs.Parity.{false-xor, xor-self, xor-equal, xor-laws, eqb-comm}
-use Rattle.laws.proofs.Parity.{xorSum-ext, xorSum-none, xorSum-last, xorSum-xor, xorSum-add, xorSum-pairs, xorSum-first}
-use Rattle.laws.proofs.Parity.{xorSum-steps, xorSum-at}
+use Rattle.laws.proofs.Parity.{false-xor, xor-self, xor-equal, xor-laws, eqb-comm, xorSum-ext, xorSum-none, xorSum-last, xorSum-xor, xorSum-add, xorSum-pairs, xorSum-first, xorSum-steps, xorSum-at}
 use Rattle.tables.specs.declared.BaseGraph.{BaseGraph}
-use Rattle.matrix.specs.Edges.{edges, parityRow, edgeRow, bitAt}
+use Rattle.laws.specs.Columns.{parityRow}
+use Rattle.matrix.specs.Edges.{edges, edgeRow, bitAt}
 use Rattle.matrix.specs.Checks.{rowSum, checkSum}
 use Rattle.matrix.specs.Encoding.{infoSum, totalSum, firstParity, parityBit}
-use Rattle.matrix.proofs.Edges.{stair-row, parity-row, parity-column, parity-shift}
+use Rattle.laws.proofs.Columns.{stair-row}
+use Rattle.matrix.proofs.Edges.{parity-row, parity-column, parity-shift}
 
 -- what base edge b adds to the check at row r and offset t
 abbrev term : BaseGraph → ℕ → (ℕ → Bool) → ℕ → ℕ → ℕ → Bool

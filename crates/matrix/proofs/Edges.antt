@@ -10,17 +10,8 @@ use lib.ListN.{getD}
 use borrow.Author.Tests.{eq-eqb, ne-eqb, lt-ltb, le-ltb}
 use Rattle.laws.proofs.Slots.{slot-lt, slot-div, slot-mod, back-then-on-by}
 use Rattle.tables.specs.declared.BaseGraph.{BaseGraph}
-use Rattle.matrix.specs.Edges.{parityRow, edgeRow, edgeColumn, edgeShift, bitAt, slotOf}
-
--- from the parity edge 3 on: the row j at the edge 2j + 1, and j - 1 at the edge 2j + 2
-pub stair-row : (m p : ℕ) → 3 ≤ p → parityRow m p ≡ (p - 1) / 2 - (p + 1) % 2
-unfolding parityRow
-stair-row m p h =
-    rw (ne-eqb p 0 (omega arith), ne-eqb p 1 (omega arith), ne-eqb p 2 (omega arith)) (by (ℕ-discrete (p % 2) 1))
-  where
-    by : Dec (p % 2 ≡ 1) → cond (eqb (p % 2) 1) ((p - 1) / 2) ((p - 1) / 2 - 1) ≡ (p - 1) / 2 - (p + 1) % 2
-    by (yes o) = rw (eq-eqb (p % 2) 1 o) (omega arith)
-    by (no o) = rw (ne-eqb (p % 2) 1 o) (omega arith)
+use Rattle.laws.specs.Columns.{parityRow}
+use Rattle.matrix.specs.Edges.{edgeRow, edgeColumn, edgeShift, bitAt, slotOf}
 
 -- an information edge
 module _ (g : BaseGraph) (b : ℕ) (h : b < 3 * g .shape .«k_b») where

@@ -13,8 +13,10 @@ use Rattle.tables.specs.Graph.{graphOf, shapeOf, rowAt, infoColumns}
 use Rattle.tables.specs.declared.BaseGraph.{BaseGraph}
 use Rattle.tables.proofs.Sizes.{sizes}
 use Rattle.tables.proofs.Columns as Columns
-use Rattle.matrix.specs.Edges.{edges, parityRow, edgeRow, edgeColumn}
-use Rattle.matrix.proofs.Edges.{stair-row, info-row, info-column, parity-row, parity-column}
+use Rattle.laws.specs.Columns.{parityRow}
+use Rattle.matrix.specs.Edges.{edges, edgeRow, edgeColumn}
+use Rattle.laws.proofs.Columns.{stair-row}
+use Rattle.matrix.proofs.Edges.{info-row, info-column, parity-row, parity-column}
 
 pub record Simple (g : BaseGraph) : Type 0 where
   pub once : (b b′ : ℕ) → b < edges g → b′ < edges g → edgeRow g b ≡ edgeRow g b′ → edgeColumn g b ≡ edgeColumn g b′ → b ≡ b′

@@ -5,16 +5,12 @@ use Prim.Native.Nat.{ℕ, zero, suc, _+_, _*_, _/_, _%_, _-_}
 use lib.Dec.{ltb, eqb}
 use lib.ListN.{getD}
 use Rattle.laws.specs.Range.{collect}
+use Rattle.laws.specs.Columns.{parityRow}
 use Rattle.tables.specs.declared.BaseGraph.{BaseGraph}
 
 -- three in each information column, three in column k_b, two in each of the m_b - 1 columns after it
 unfoldable pub edges : BaseGraph → ℕ
 edges g = 3 * g .shape .«k_b» + 2 * g .shape .«m_b» + 1
-
--- the rows of the parity edges: 0, m - 1 and m / 2 in column k_b, then j and j - 1 in column k_b + j
-unfoldable pub parityRow : ℕ → ℕ → ℕ
-parityRow m p =
-    cond (eqb p 0) 0 (cond (eqb p 1) (m - 1) (cond (eqb p 2) (m / 2) (cond (eqb (p % 2) 1) ((p - 1) / 2) ((p - 1) / 2 - 1))))
 
 unfoldable pub edgeRow : BaseGraph → ℕ → ℕ
 edgeRow g b = cond (ltb b (3 * g .shape .«k_b»)) (getD (g .rows) b 0) (parityRow (g .shape .«m_b») (b - 3 * g .shape .«k_b»))

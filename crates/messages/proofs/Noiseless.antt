@@ -28,8 +28,7 @@ use Rattle.matrix.proofs.ByRow.{row-entry, by-row-entry}
 use Rattle.rule.specs.declared.Least.{Least}
 use Rattle.rule.specs.Rule.{started, taken, answered}
 use Rattle.messages.specs.Memory.{bitsOf, slotsOf, toChecks, toBits, needed, reading}
-use Rattle.messages.specs.Iteration.{gathered, answer, toBit, checkPass, added, total, totalPass, toCheck, sendPass, iteration}
-use Rattle.messages.specs.Iteration.{decision, settled}
+use Rattle.messages.specs.Iteration.{gathered, answer, toBit, checkPass, added, total, totalPass, toCheck, sendPass, iteration, decision, settled}
 use Rattle.messages.proofs.Local.{edge-bit}
 
 -- ---- the check rule: both magnitudes are plain, whatever the messages

@@ -12,7 +12,7 @@ use lib.Dec.{eqb}
 use lib.ListN.{length, take, getD}
 use lib.Seq.{take-all}
 use lib.Ieee.{Float, nan, add, sub, binary32}
-use Rattle.laws.specs.Range.{every, folded}
+use Rattle.laws.specs.Range.{every, folded, count}
 use Rattle.laws.specs.Floats.{negative}
 use Rattle.laws.proofs.Range.{every-ext, every-rows, count-nothing}
 use Rattle.laws.specs.Written.{Written, At}
@@ -25,7 +25,6 @@ use Rattle.matrix.specs.Checks.{rowSum, checkSum, unmet}
 use Rattle.matrix.proofs.Edges.{bit-lt}
 use Rattle.matrix.proofs.ByRow.{row-entry, row-rank, row-rank-lt, ofRow, by-row-most}
 use Rattle.matrix.proofs.Simple.{Simple}
-use Rattle.laws.specs.Range.{count}
 use Rattle.messages.specs.Memory.{bitsOf, slotsOf, toChecks, toBits, needed, reading}
 use Rattle.messages.specs.Iteration.{answer, toBit, checkPass, added, total, totalPass, ofBit, spreadPass, toCheck, sendPass, decision, settled}
 use Rattle.messages.proofs.Local.{answer-agrees}

@@ -1,2 +1,3 @@
+-- The terms of the passes. Assumes nothing.
 pub mod Runs
 pub mod Lent

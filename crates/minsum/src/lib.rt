@@ -1,14 +1,14 @@
 // One iteration of normalised min-sum over the work memory: 01, "Iteration".
 // What these functions require, their callers in this and the decoder's crate meet.
-mod bits;
 mod checks;
 mod passes;
+mod runs;
 mod sizes;
 mod slots;
 
-pub use bits::copy_run;
 pub use passes::converged;
 pub use passes::iterate;
 pub use passes::spread_pass;
+pub use runs::copy_run;
 pub use sizes::Sizes;
 pub use sizes::sizes_of;

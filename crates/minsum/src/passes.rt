@@ -1,10 +1,10 @@
 // The passes of an iteration over the whole work memory, and the convergence test: each goes by the lists of the call.
-use crate::bits::add_turned;
-use crate::bits::copy_run;
-use crate::bits::copy_turned;
-use crate::bits::met_row;
-use crate::bits::subtract_turned;
 use crate::checks::check_row;
+use crate::runs::add_turned;
+use crate::runs::copy_run;
+use crate::runs::copy_turned;
+use crate::runs::met_row;
+use crate::runs::subtract_turned;
 use crate::sizes::Sizes;
 use ldpc::Code;
 ghost use mathlib.Core.Path.{_≡_};

@@ -1,1 +1,2 @@
+-- What a call tells. Assumes nothing.
 pub mod Told

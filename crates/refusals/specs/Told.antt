@@ -1,7 +1,13 @@
 -- What a call tells: what it gives, or 01's number of a refusal with its pair. Assumes nothing.
+use mathlib.Core.Bool.{cond}
 use Prim.Native.Nat.{ℕ}
+use lib.Dec.{eqb}
 use Rattle.refusals.specs.declared.Refusal.{Refusal}
 use Rattle.refusals.specs.declared.Refusal.the-variants.{NoFamily, TooLong, Design, Row, Input, NotBit, NoCheck, Work, Output, Iterations, Record}
+use Rattle.refusals.specs.declared.Counted.{Counted}
+use Rattle.refusals.specs.declared.Counted.the-variants as counted
+use Rattle.refusals.specs.declared.Filled.{Filled}
+use Rattle.refusals.specs.declared.Filled.the-variants as filled
 use Rattle.refusals.specs.declared.Numbers.{Numbers}
 
 pub data Told (A : Type 0) : Type 0 where
@@ -29,3 +35,21 @@ refusedBy r = refused (numbersOf r .number) (numbersOf r .first) (numbersOf r .s
 abbrev pub after : {A B : Type 0} → Told A → B → B → B
 after (gave a) written kept = written
 after (refused n p q) written kept = kept
+
+-- a test, and what is told where it is passed
+abbrev pub andThen : {A : Type 0} → Told (Unit {0}) → Told A → Told A
+andThen (gave x) rest = rest
+andThen (refused n p q) rest = refused n p q
+
+-- the answers' cases
+abbrev pub toldCount : Counted → Told ℕ
+toldCount (counted.Count n) = gave n
+toldCount (counted.Refused r) = refusedBy r
+
+abbrev pub toldDone : Filled → Told (Unit {0})
+toldDone filled.Done = gave tt
+toldDone (filled.Refused r) = refusedBy r
+
+-- refusals 5 and 9: a length that must be exact
+unfoldable pub ifLength : {A : Type 0} → ℕ → ℕ → ℕ → Told A → Told A
+ifLength number given wanted rest = cond (eqb given wanted) rest (refused number given wanted)

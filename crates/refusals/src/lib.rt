@@ -28,6 +28,18 @@ pub enum Refusal {
     Record(usize, usize),
 }
 
+// What a call that counts answers.
+pub enum Counted {
+    Count(usize),
+    Refused(Refusal),
+}
+
+// What a call that fills its outputs answers.
+pub enum Filled {
+    Done,
+    Refused(Refusal),
+}
+
 // A refusal's number and its pair.
 pub struct Numbers {
     pub number: usize,

@@ -1,1 +1,2 @@
+-- The inputs of the replay. Assumes nothing.
 pub mod Inputs

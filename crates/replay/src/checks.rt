@@ -1,7 +1,7 @@
 // The base edges and the check lists of a code.
 use ldpc::Code;
-use ldpc::Counted;
 use ldpc::EdgeAt;
+use refusals::Counted;
 use text::print_summed;
 use text::sum_step;
 

@@ -1,9 +1,9 @@
 // Encodings, and unsatisfied counts of words.
 use crate::inputs::flip;
 use ldpc::Code;
-use ldpc::Counted;
-use ldpc::Encoded;
 use readings::fill_bits;
+use refusals::Counted;
+use refusals::Filled;
 ghost use mathlib.Core.Path.{_≡_};
 ghost use Prim.Native.Nat.{_≤_};
 ghost use lib.ListN.{length};
@@ -11,11 +11,11 @@ ghost use Rattle.ldpc.specs.Calls.{encodeWritten};
 ghost use Rattle.readings.specs.Generator.{randomBits};
 ghost use Rattle.replay.specs.Inputs.{changed};
 
-fn print_encoded(answer: Encoded, word: &[u8]) {
+fn print_encoded(answer: Filled, word: &[u8]) {
     text::print_bytes(b"encoding ");
     match answer {
-        Encoded::Done => text::print_word(word, 200),
-        Encoded::Refused(r) => text::print_refusal(r, b'\n'),
+        Filled::Done => text::print_word(word, 200),
+        Filled::Refused(r) => text::print_refusal(r, b'\n'),
     }
 }
 

@@ -1,3 +1,4 @@
+-- What the soak draws, compares and counts. Assumes nothing.
 pub mod Inputs
 pub mod Totals
 pub mod Compare

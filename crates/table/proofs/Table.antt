@@ -10,13 +10,13 @@ use lib.Dec.{T}
 use lib.ListN.{length, getD}
 use lib.Ieee.{Float, lt, add, mul}
 use Rattle.laws.specs.Range.{sum, xorSum, count, collect, folded}
-use Rattle.laws.specs.Columns.{informationColumns}
+use Rattle.laws.specs.Columns.{informationColumns, parityRow}
 use Rattle.laws.specs.Written.{tabulate, rewritten}
 use Rattle.laws.specs.Floats.{negative, magnitude}
 use Rattle.laws.specs.Run.{next, run}
 use Rattle.tables.specs.Flat.{rowList, shiftList}
 use Rattle.tables.specs.Graph.{graphNumber, baseColumns, infoColumns, baseRows, firstColumn, entryAt, rowAt, shiftAt, shapeOf, graphOf}
-use Rattle.matrix.specs.Edges.{edges, parityRow, edgeRow, edgeColumn, edgeShift, bitAt, rowEdges, edgesByRow, slotOf}
+use Rattle.matrix.specs.Edges.{edges, edgeRow, edgeColumn, edgeShift, bitAt, rowEdges, edgesByRow, slotOf}
 use Rattle.matrix.specs.Checks.{rowSum, checkSum, unmet, isSent, placeOf, lifted}
 use Rattle.matrix.specs.Encoding.{infoSum, totalSum, firstParity, parityBit, encoding}
 use Rattle.rule.specs.Rule.{started, taken, answered}

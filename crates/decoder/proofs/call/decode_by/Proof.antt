@@ -3,7 +3,7 @@ use mathlib.Core.Path.{_≡_, sym, ap, subst, _∙_}
 use native.Mathlib.Omega.{arith}
 use borrow.Author.Needs.{needs}
 use lib.ListN.{length}
-use Rattle.ldpc.proofs.Refused.{length-passed, length-refused}
+use Rattle.refusals.proofs.Lengths.{length-passed, length-refused}
 use Rattle.decoder.proofs.Started.{ready}
 use Rattle.decoder.specs.Calls.{decodedBy, memoryBy, writtenBy}
 use Rattle.refusals.specs.Told.{gave}

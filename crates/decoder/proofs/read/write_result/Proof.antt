@@ -1,8 +1,7 @@
 -- `write_result` meets its contract. Assumes nothing.
 use mathlib.Core.Path.{sym, subst}
 use borrow.Author.Needs.{needs}
--- `write_result` meets its contract. Assumes nothing.
-use Rattle.ldpc.specs.Sums.{Bits}
+use Rattle.bits.specs.Sums.{Bits}
 use Rattle.decoder.proofs.Clean.{word-bits}
 use Rattle.decoder.specs.Decoding.{progressOf, resultOf}
 use Rattle.decoder.proofs.read.write_result.Statement.{statement}

@@ -5,8 +5,9 @@ use native.Mathlib.Nat.{mul-le-mul}
 use lib.Dec.{eqb}
 use lib.ListN.{length}
 use Rattle.laws.proofs.Slots.{row-le}
+use Rattle.bits.specs.Rows.{Holds, Stepped}
 use Rattle.ldpc.specs.Code.{checksOf}
-use Rattle.ldpc.specs.Stairs.{Holds, stairBit, stairs, Stepped}
+use Rattle.ldpc.specs.Stairs.{stairBit, stairs}
 use Rattle.ldpc.proofs.Made.{sized}
 use Rattle.ldpc.proofs.Staired.{length-stairs, rows-more, next-more}
 use native.Mathlib.Omega.{arith}

@@ -6,9 +6,11 @@ use native.Mathlib.Omega.{arith}
 use borrow.Author.Needs.{needs}
 use lib.ListN.{replicate, getD-replicate}
 use Rattle.tables.specs.Graph.{graphOf}
+use Rattle.bits.specs.Sums.{Bits}
+use Rattle.bits.specs.Rows.{Holds}
 use Rattle.ldpc.specs.Code.{codeGraph}
-use Rattle.ldpc.specs.Sums.{Bits, sumsOf}
-use Rattle.ldpc.specs.Stairs.{Holds, stairs}
+use Rattle.ldpc.specs.Sums.{sumsOf}
+use Rattle.ldpc.specs.Stairs.{stairs}
 use Rattle.ldpc.proofs.Made.{Known, known, Sized, sized}
 use Rattle.ldpc.proofs.Summed.{sums-bits}
 use Rattle.ldpc.proofs.Staired.{no-stairs, total-is, first-is}

@@ -4,7 +4,7 @@ use Prim.Native.Nat.{_*_}
 use native.Mathlib.Omega.{arith}
 use borrow.Author.Needs.{needs}
 use lib.Seq.{length-take-le, length-front}
-use Rattle.ldpc.specs.Members.{onesIn}
+use Rattle.bits.specs.Words.{onesIn}
 use Rattle.ldpc.specs.Sums.{sumsOf}
 use Rattle.ldpc.proofs.Made.{Known, known}
 use Rattle.ldpc.proofs.Summed.{ones-unmet}

@@ -6,8 +6,8 @@ use native.Mathlib.Nat.{mod-lt, mul-le-mul}
 use borrow.Author.Tests.{lt-ltb, le-ltb, le-leb, lt-leb, eq-eqb, ne-eqb}
 use Rattle.matrix.specs.Edges.{bitAt}
 use Rattle.matrix.specs.Checks.{isSent, placeOf}
+use Rattle.bits.specs.declared.edge.Edge.{Edge}
 use Rattle.ldpc.specs.declared.choice.Code.{Code}
-use Rattle.ldpc.specs.declared.edge.Edge.{Edge}
 use Rattle.ldpc.specs.declared.members.Sent.the-variants.{Place, None}
 use Rattle.ldpc.specs.Code.{codeGraph, infoEnd}
 use Rattle.ldpc.specs.Members.{isMember, memberPlace, memberAt}

@@ -6,8 +6,9 @@ use native.Mathlib.Nat.{mod-lt}
 use lib.ListN.{length}
 use Rattle.laws.proofs.Slots.{row-le}
 use Rattle.matrix.specs.Edges.{edgeShift}
+use Rattle.bits.specs.Sums.{Bits, AddedTurned}
 use Rattle.ldpc.specs.Code.{codeGraph, checksOf}
-use Rattle.ldpc.specs.Sums.{Bits, AddedTurned, PartOf}
+use Rattle.ldpc.specs.Sums.{PartOf}
 use Rattle.ldpc.proofs.Made.{Sized, sized}
 use Rattle.ldpc.proofs.CodeEdges.{Edged, edge-asked, edged}
 use Rattle.ldpc.proofs.Summed.{length-sums, sums-bits, turn}

@@ -7,7 +7,8 @@ use lib.ListN.{length}
 use borrow.Author.Tests.{not-true, not-false}
 use Rattle.ldpc.specs.Choice.{made}
 use Rattle.decoder.proofs.Started.{ready}
-use Rattle.ldpc.proofs.Refused.{made-passed, made-refused, length-passed, length-refused}
+use Rattle.refusals.proofs.Lengths.{length-passed, length-refused}
+use Rattle.ldpc.proofs.Refused.{made-passed, made-refused}
 use Rattle.decoder.specs.Calls.{readTold, readWritten}
 use Rattle.decoder.proofs.Refused.{work-passed, work-refused}
 use Rattle.refusals.specs.Told.{gave}

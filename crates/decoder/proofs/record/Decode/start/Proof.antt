@@ -5,7 +5,8 @@ use native.Mathlib.Omega.{arith}
 use borrow.Author.Needs.{needs}
 use lib.ListN.{length}
 use borrow.Author.Tests.{not-true, not-false}
-use Rattle.ldpc.proofs.Refused.{made-passed, made-refused, length-passed, length-refused}
+use Rattle.refusals.proofs.Lengths.{length-passed, length-refused}
+use Rattle.ldpc.proofs.Refused.{made-passed, made-refused}
 use Rattle.decoder.proofs.Started.{ready}
 use Rattle.decoder.specs.Calls.{startTold, startWritten}
 use Rattle.decoder.proofs.Refused.{work-passed, work-refused}

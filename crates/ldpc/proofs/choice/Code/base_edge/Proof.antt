@@ -8,13 +8,13 @@ use borrow.Author.Tests.{not-true, not-false, lt-ltb, le-ltb}
 use Rattle.tables.specs.declared.BaseGraph.{BaseGraph}
 use Rattle.tables.proofs.Sizes.{Shaped}
 use Rattle.matrix.specs.Edges.{edges}
+use Rattle.bits.specs.declared.edge.Edge.{Edge}
+use Rattle.bits.specs.Edge.{edgesIn, edgeOf}
 use Rattle.ldpc.specs.declared.choice.Code.{Code}
-use Rattle.ldpc.specs.declared.edge.Edge.{Edge}
-use Rattle.ldpc.specs.declared.edge.EdgeAt.the-variants.{None}
-use Rattle.ldpc.specs.declared.edge.EdgeAt.the-variants as at
+use Rattle.ldpc.specs.declared.getters.EdgeAt.the-variants.{None}
+use Rattle.ldpc.specs.declared.getters.EdgeAt.the-variants as at
 use Rattle.ldpc.specs.Choice.{made}
 use Rattle.ldpc.specs.Code.{codeGraph}
-use Rattle.ldpc.specs.Edge.{edgesIn, edgeOf}
 use Rattle.ldpc.specs.Getters.{edgeTold}
 use Rattle.ldpc.proofs.Made.{sized}
 use Rattle.ldpc.proofs.choice.Code.base_edge.Statement.{statement}

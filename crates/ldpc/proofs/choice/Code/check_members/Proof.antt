@@ -12,10 +12,10 @@ use Rattle.laws.proofs.Collect.{length-collect}
 use Rattle.refusals.specs.Told.{Told, gave, refused}
 use Rattle.matrix.specs.Edges.{edges}
 use Rattle.matrix.specs.Checks.{membersOf}
+use Rattle.bits.specs.Edge.{edgesIn}
 use Rattle.ldpc.specs.declared.choice.Code.{Code}
 use Rattle.ldpc.specs.Choice.{made}
 use Rattle.ldpc.specs.Code.{codeGraph, checksOf}
-use Rattle.ldpc.specs.Edge.{edgesIn}
 use Rattle.ldpc.specs.Calls.{ifMade, codeMembers, listed, listWritten}
 use Rattle.ldpc.specs.Members.{isMember, memberPlace}
 use Rattle.ldpc.proofs.Made.{Sized, sized}

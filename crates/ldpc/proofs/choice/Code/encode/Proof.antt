@@ -8,11 +8,13 @@ use borrow.Author.Tests.{not-true, not-false}
 use borrow.Rule.Slice.PartMut.{same-len-mid}
 use lib.ListN.{length, drop, length-drop}
 use lib.Seq.{length-take-le}
+use Rattle.refusals.proofs.Lengths.{length-passed, length-refused}
+use Rattle.bits.proofs.Bytes.{all-bits}
 use Rattle.ldpc.specs.Choice.{made}
 use Rattle.ldpc.specs.Code.{checksOf}
 use Rattle.ldpc.specs.Calls.{encodeTold, encodeWritten}
 use Rattle.ldpc.proofs.Made.{sized}
-use Rattle.ldpc.proofs.Refused.{made-passed, made-refused, length-passed, length-refused, bits-passed, bits-refused, all-bits}
+use Rattle.ldpc.proofs.Refused.{made-passed, made-refused, bits-passed, bits-refused}
 use Rattle.ldpc.proofs.Encoded.{whole-is}
 use Rattle.ldpc.proofs.choice.Code.encode.Statement.{statement}
 use Rattle.ldpc.proofs.choice.Code.encode.Tie as tie

@@ -3,9 +3,10 @@ use mathlib.Core.Path.{_≡_, sym, _∙_}
 use mathlib.Core.Bool.{true}
 use borrow.Author.Tests.{not-true, not-false}
 use borrow.Author.Needs.{needs}
+use Rattle.bits.proofs.Bytes.{all-bits}
 use Rattle.ldpc.specs.Choice.{made}
 use Rattle.ldpc.specs.Calls.{unsatisfiedTold}
-use Rattle.ldpc.proofs.Refused.{made-passed, made-refused, bits-passed, bits-refused, all-bits}
+use Rattle.ldpc.proofs.Refused.{made-passed, made-refused, bits-passed, bits-refused}
 use Rattle.ldpc.proofs.choice.Code.unsatisfied.Statement.{statement}
 use Rattle.ldpc.proofs.choice.Code.unsatisfied.Tie as tie
 

@@ -1,0 +1,32 @@
+// Words of bytes that should be bits, and the ones in them.
+ghost use mathlib.Core.Path.{_≡_};
+ghost use Rattle.bits.specs.Words.{firstNotBit, onesIn};
+
+// The first place with a byte above 1, or the length.
+pub fn first_not_bit(word: &[u8]) -> usize
+    ensures { λ r. ⌜ r ≡ firstNotBit (now (word .entry)) ⌝ }
+{
+    let mut i = 0;
+    while i < word.len() {
+        if 1 < word[i] {
+            return i;
+        }
+        i += 1;
+    }
+    i
+}
+
+// How many bytes are 1.
+pub fn count_ones(bits: &[u8]) -> usize
+    ensures { λ r. ⌜ r ≡ onesIn (now (bits .entry)) ⌝ }
+{
+    let mut count = 0;
+    let mut i = 0;
+    while i < bits.len() {
+        if bits[i] == 1 {
+            count += 1;
+        }
+        i += 1;
+    }
+    count
+}

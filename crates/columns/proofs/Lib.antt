@@ -1,0 +1,2 @@
+-- Where a column has a row. Assumes nothing.
+pub mod Places

@@ -1,0 +1,3 @@
+-- Four-cycles. Assumes nothing.
+pub mod Cycles
+pub mod Places

@@ -1,0 +1,2 @@
+-- The computed columns and the seed. Assumes nothing.
+pub mod Drawn

@@ -1,0 +1,2 @@
+-- What the program draws. Assumes nothing.
+pub mod Inputs

@@ -1,0 +1,3 @@
+-- Edge growth. Assumes nothing.
+pub mod Growth
+pub mod Search

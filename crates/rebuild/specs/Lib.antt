@@ -1,0 +1,2 @@
+-- How graphs are compared. Assumes nothing.
+pub mod Compared

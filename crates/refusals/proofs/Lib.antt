@@ -1,0 +1,2 @@
+-- The tests of the refusals. Assumes nothing.
+pub mod Lengths
