@@ -2,7 +2,7 @@
 -- it is ahead of those before it. `Order` is what a search asks of `ahead`. Assumes nothing.
 use mathlib.Core.Path.{_≡_, refl, sym, _∙_}
 use mathlib.Core.Logic.{_⊎_, inl, inr}
-use mathlib.Core.Bool.{Bool, true, false, not, _&&_, _||_, true≢false}
+use mathlib.Core.Bool.{Bool, true, false, not, _&&_, _||_}
 use Prim.Native.Nat.{ℕ, zero, suc, _+_, _<_, _≤_}
 use native.Mathlib.Omega.{arith}
 use native.Mathlib.Numerals.{add-one}
@@ -13,6 +13,7 @@ use borrow.Author.Tests.{lt-ltb, le-ltb, eq-eqb, ne-eqb, ltb-true, ltb-false}
 use Rattle.laws.specs.Range.{every, foremost}
 use Rattle.laws.proofs.Range.{every-fails, every-ext}
 use Rattle.laws.proofs.First.{first-at, first-none, first-ext}
+use Rattle.laws.proofs.Some.{never}
 
 pub record Order (ahead : ℕ → ℕ → Bool) : Type 0 where
   pub self : (a : ℕ) → ahead a a ≡ false
@@ -23,9 +24,6 @@ pub every-holds : (p : ℕ → Bool) (n : ℕ) → ((k : ℕ) → k < n → p k 
 unfolding every
 every-holds p zero h = refl
 every-holds p (suc n) h = rw (every-holds p n (λ k l. h k (omega arith)), h n (omega arith))
-
-both : (a : Bool) → a ≡ false → a ≡ true → ⊥
-both a f t = true≢false (sym t ∙ f)
 
 -- tests and orders that agree below n
 pub foremost-ext : (p p′ : ℕ → Bool) (a a′ : ℕ → ℕ → Bool) (n : ℕ) → ((r : ℕ) → r < n → p r ≡ p′ r)
@@ -54,8 +52,8 @@ module _ (p : ℕ → Bool) (ahead : ℕ → ℕ → Bool) where
       record {
         below = omega arith;
         has = e;
-        none = more n n (λ q l i. absurd (both (p q) (h q l) i)) (λ i. s);
-        before = λ q l i. absurd (both (p q) (h q l) i);
+        none = more n n (λ q l i. absurd (never (p q) i (h q l))) (λ i. s);
+        before = λ q l i. absurd (never (p q) i (h q l));
       }
 
   -- one number more, without p or not ahead
@@ -64,7 +62,7 @@ module _ (p : ℕ → Bool) (ahead : ℕ → ℕ → Bool) where
       record {
         below = omega (arith, L .below);
         has = L .has;
-        none = more n r (L .none) (λ i. absurd (both (p n) e i));
+        none = more n r (L .none) (λ i. absurd (never (p n) i e));
         before = L .before;
       }
 
@@ -130,7 +128,7 @@ module _ (p : ℕ → Bool) (ahead : ℕ → ℕ → Bool) where
     where
       by : Leader n ⊎ ((q : ℕ) → q < n → p q ≡ false) → Lead n (foremost p ahead n)
       by (inl L) = rw (lead-all n (L .at) (L .leads)) (L .leads)
-      by (inr h) = absurd (both (p q) (h q l) e)
+      by (inr h) = absurd (never (p q) e (h q l))
 
 -- smaller keys are ahead
 pub by-key : (key : ℕ → ℕ) → Order (λ a b. ltb (key a) (key b))
@@ -160,13 +158,13 @@ over-true x u y v e = by (decLt y x) (ℕ-discrete x y)
     by : Dec (y < x) → Dec (x ≡ y) → (y ≤ x) × (x ≤ y → u < v)
     by (yes h) d = (omega arith, λ k. absurd (omega arith))
     by (no h) (yes q) = (omega arith, λ k. ltb-true u v (sym (level x u y v q) ∙ e))
-    by (no h) (no q) = absurd (both (over x u y v) (under x u y v (omega arith)) e)
+    by (no h) (no q) = absurd (never (over x u y v) e (under x u y v (omega arith)))
 
 over-false : (x u y v : ℕ) → over x u y v ≡ false → (x ≤ y) × (y ≤ x → v ≤ u)
 over-false x u y v e = by (decLt y x) (ℕ-discrete x y)
   where
     by : Dec (y < x) → Dec (x ≡ y) → (x ≤ y) × (y ≤ x → v ≤ u)
-    by (yes h) d = absurd (both (over x u y v) e (above x u y v h))
+    by (yes h) d = absurd (never (over x u y v) (above x u y v h) e)
     by (no h) (yes q) = (omega arith, λ k. ltb-false u v (sym (level x u y v q) ∙ e))
     by (no h) (no q) = (omega arith, λ k. absurd (omega arith))
 
