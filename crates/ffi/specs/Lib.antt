@@ -1,0 +1,2 @@
+-- What the calls of the C boundary tell. Assumes nothing.
+pub mod Boundary

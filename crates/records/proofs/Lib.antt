@@ -1,0 +1,3 @@
+-- The laws of records and answers. Assumes nothing.
+pub mod Fronts
+pub mod Answered

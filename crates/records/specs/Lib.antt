@@ -1,0 +1,2 @@
+-- Records and answers as plain numbers. Assumes nothing.
+pub mod Answers
