@@ -1,4 +1,4 @@
-/* Fuyegbo for C: the block coder, the decoder and graph design, over libffi.a.
+/* Fuyegbo for C: the block coder, the decoder and graph design, over libfuyegbo.a.
  *
  * Nothing is kept between calls and nothing is allocated: all memory is lent by the caller, for the time of the call.
  * Every call ends, and calls from several threads are independent as long as what they are lent is.

@@ -1,2 +1,0 @@
--- What the calls of the C boundary tell. Assumes nothing.
-pub mod Boundary

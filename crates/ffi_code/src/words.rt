@@ -1,0 +1,69 @@
+// Check lists, unsatisfied counts and encoding, of a code record in six numbers.
+use refusals::Refusal;
+ghost use mathlib.Core.Path.{_≡_};
+ghost use mathlib.Core.List.{_++_};
+ghost use lib.ListN.{length, drop};
+ghost use Rattle.refusals.specs.Told.{after};
+ghost use Rattle.ldpc.specs.Calls.{codeMembers, encodingOf};
+ghost use Rattle.boundary.specs.Answers.{codeIn, one, none, numberTold, answered};
+ghost use Rattle.boundary.specs.Calls.{membersAt, unsatisfiedAt, encodeAt};
+
+// The transmitted members of a check, and how many they are.
+#[no_mangle]
+pub extern "C" fn fuyegbo_check_members(
+    code: &[usize],
+    check: usize,
+    out: &mut [u32],
+    answer: &mut [usize],
+) -> usize
+    ensures { λ r. ⌜ r ≡ numberTold (membersAt (now (code .entry)) check (length (now (out .entry))) (length (now (answer .entry)))) ⌝ }
+    ensures { λ _. ⌜ now (out .exit) ≡ after (membersAt (now (code .entry)) check (length (now (out .entry))) (length (now (answer .entry)))) (codeMembers (codeIn (now (code .entry))) check ++ drop (length (codeMembers (codeIn (now (code .entry))) check)) (now (out .entry))) (now (out .entry)) ⌝ }
+    ensures { λ _. ⌜ now (answer .exit) ≡ answered one (membersAt (now (code .entry)) check (length (now (out .entry))) (length (now (answer .entry)))) (now (answer .entry)) ⌝ }
+{
+    if answer.len() != 3 {
+        return 9;
+    }
+    if code.len() != 6 {
+        return boundary::refuse(Refusal::Input(code.len(), 6), answer);
+    }
+    let c = boundary::code_in(code);
+    boundary::counted(c.check_members(check, out), answer)
+}
+
+// How many checks a word does not meet.
+#[no_mangle]
+pub extern "C" fn fuyegbo_unsatisfied(code: &[usize], word: &[u8], answer: &mut [usize]) -> usize
+    ensures { λ r. ⌜ r ≡ numberTold (unsatisfiedAt (now (code .entry)) (now (word .entry)) (length (now (answer .entry)))) ⌝ }
+    ensures { λ _. ⌜ now (answer .exit) ≡ answered one (unsatisfiedAt (now (code .entry)) (now (word .entry)) (length (now (answer .entry)))) (now (answer .entry)) ⌝ }
+{
+    if answer.len() != 3 {
+        return 9;
+    }
+    if code.len() != 6 {
+        return boundary::refuse(Refusal::Input(code.len(), 6), answer);
+    }
+    let c = boundary::code_in(code);
+    boundary::counted(c.unsatisfied(word), answer)
+}
+
+// Encodes k information bits into n_tx transmitted ones.
+#[no_mangle]
+pub extern "C" fn fuyegbo_encode(
+    code: &[usize],
+    info: &[u8],
+    out: &mut [u8],
+    answer: &mut [usize],
+) -> usize
+    ensures { λ r. ⌜ r ≡ numberTold (encodeAt (now (code .entry)) (now (info .entry)) (length (now (out .entry))) (length (now (answer .entry)))) ⌝ }
+    ensures { λ _. ⌜ now (out .exit) ≡ after (encodeAt (now (code .entry)) (now (info .entry)) (length (now (out .entry))) (length (now (answer .entry)))) (encodingOf (codeIn (now (code .entry))) (now (info .entry))) (now (out .entry)) ⌝ }
+    ensures { λ _. ⌜ now (answer .exit) ≡ answered none (encodeAt (now (code .entry)) (now (info .entry)) (length (now (out .entry))) (length (now (answer .entry)))) (now (answer .entry)) ⌝ }
+{
+    if answer.len() != 3 {
+        return 9;
+    }
+    if code.len() != 6 {
+        return boundary::refuse(Refusal::Input(code.len(), 6), answer);
+    }
+    let c = boundary::code_in(code);
+    boundary::filled(c.encode(info, out), answer)
+}

@@ -1,2 +1,0 @@
--- Records and answers as plain numbers. Assumes nothing.
-pub mod Answers
