@@ -8,7 +8,7 @@ use Rattle.refusals.specs.Told.{Told, gave, refused, ifLength}
 use Rattle.matrix.specs.Encoding.{bit}
 use Rattle.ldpc.specs.declared.choice.Code.{Code}
 use Rattle.ldpc.specs.Code.{workOf}
-use Rattle.ldpc.specs.Calls.{ifMade}
+use Rattle.ldpc.specs.Choice.{ifMade}
 use Rattle.decoder.specs.declared.record.Decode.{Decode}
 use Rattle.decoder.specs.declared.record.DecodeResult.{DecodeResult}
 

@@ -8,7 +8,7 @@ use lib.Ieee.{Float}
 use Rattle.refusals.specs.Told.{Told, ifLength}
 use Rattle.ldpc.specs.declared.choice.Code.{Code}
 use Rattle.ldpc.specs.Choice.{chosen}
-use Rattle.ldpc.specs.Calls.{listed, unsatisfiedTold, encodeTold}
+use Rattle.coder.specs.Calls.{listed, unsatisfiedTold, encodeTold}
 use Rattle.decoder.specs.declared.record.Decode.{Decode}
 use Rattle.decoder.specs.declared.record.DecodeResult.{DecodeResult}
 use Rattle.decoder.specs.Calls.{startTold, grantTold, readTold, decodeTold, decodeMemory, decodeWritten}

@@ -24,7 +24,7 @@ fn print_whether(so: bool, what: &[u8]) {
 
 fn print_unsatisfied(c: Code, word: &[u8]) {
     text::print_bytes(b"unsatisfied ");
-    let counted = c.unsatisfied(word);
+    let counted = coder::unsatisfied(c, word);
     match counted {
         Counted::Count(n) => text::print_number(n, b'\n'),
         Counted::Refused(r) => text::print_refusal(r, b'\n'),

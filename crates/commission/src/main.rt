@@ -7,7 +7,7 @@ use ldpc::Code;
 use refusals::Counted;
 use refusals::Filled;
 ghost use mathlib.Core.Path.{_≡_};
-ghost use Rattle.ldpc.specs.Calls.{encodeWritten};
+ghost use Rattle.coder.specs.Calls.{encodeWritten};
 
 pub fn print_asked(rate: usize, n_tx: usize) {
     text::print_bytes(b"(");
@@ -65,7 +65,7 @@ fn print_same(rate: usize, other: usize, n_tx: usize) {
 fn print_encoded(c: Code, info: &[u8], word: &mut [u8])
     ensures { λ _. ⌜ now (word .exit) ≡ encodeWritten c (now (info .entry)) (now (word .entry)) ⌝ }
 {
-    let answer = c.encode(info, word);
+    let answer = coder::encode(c, info, word);
     match answer {
         Filled::Done => text::print_bits(word),
         Filled::Refused(r) => text::print_refusal(r, b' '),

@@ -15,7 +15,7 @@ use Rattle.messages.specs.Memory.{bitsOf, slotsOf, toChecks, toBits}
 use Rattle.ldpc.specs.declared.choice.Code.{Code}
 use Rattle.ldpc.specs.Choice.{made}
 use Rattle.ldpc.specs.Code.{codeGraph, workOf}
-use Rattle.ldpc.specs.Calls.{unsatisfiedOf}
+use Rattle.coder.specs.Calls.{unsatisfiedOf}
 use Rattle.decoder.specs.declared.record.Decode.{Decode}
 use Rattle.decoder.specs.declared.record.DecodeResult.{DecodeResult}
 use Rattle.decoder.specs.Decoding.{channelOf, startMemory, iterated, unbroken, recordOf, wordOf, resultOf}

@@ -7,9 +7,8 @@ use borrow.Author.Tests.{ltb-false, eqb-true}
 use lib.Dec.{ltb, eqb}
 use Rattle.refusals.specs.Told.{Told, gave, refused, ifLength}
 use Rattle.ldpc.specs.declared.choice.Code.{Code}
-use Rattle.ldpc.specs.Choice.{made}
+use Rattle.ldpc.specs.Choice.{made, ifMade}
 use Rattle.ldpc.specs.Code.{workOf}
-use Rattle.ldpc.specs.Calls.{ifMade}
 use Rattle.decoder.specs.Calls.{ifWork, ifSum}
 
 -- a refusal gives nothing

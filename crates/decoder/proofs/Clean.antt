@@ -19,8 +19,8 @@ use Rattle.bits.specs.Sums.{Bits}
 use Rattle.ldpc.specs.declared.choice.Code.{Code}
 use Rattle.ldpc.specs.Choice.{made}
 use Rattle.ldpc.specs.Code.{codeGraph, infoEnd}
-use Rattle.ldpc.specs.Calls.{unsatisfiedOf, encodingOf}
-use Rattle.ldpc.proofs.Theorems.{codeword}
+use Rattle.coder.specs.Calls.{unsatisfiedOf, encodingOf}
+use Rattle.coder.proofs.Theorems.{codeword}
 use Rattle.decoder.specs.declared.record.Decode.{Decode}
 use Rattle.decoder.specs.declared.record.DecodeResult.{DecodeResult}
 use Rattle.decoder.specs.Decoding.{progressOf, wordOf, resultOf}

@@ -13,7 +13,7 @@ use Rattle.laws.proofs.Floats.{Sided}
 use Rattle.bits.specs.Sums.{Bits}
 use Rattle.ldpc.specs.declared.choice.Code.{Code}
 use Rattle.ldpc.specs.Code.{workOf}
-use Rattle.ldpc.specs.Calls.{encodingOf}
+use Rattle.coder.specs.Calls.{encodingOf}
 use Rattle.decoder.specs.declared.record.Decode.{Decode}
 use Rattle.decoder.specs.declared.record.DecodeResult.{DecodeResult}
 use Rattle.decoder.specs.Decoding.{alpha, unbroken, wordOf, resultOf}

@@ -33,11 +33,11 @@ use Rattle.bits.proofs.Bytes.{bit-most}
 use Rattle.ldpc.specs.declared.choice.Code.{Code}
 use Rattle.ldpc.specs.Choice.{made}
 use Rattle.ldpc.specs.Code.{codeGraph, infoEnd, checksOf, workOf}
-use Rattle.ldpc.specs.Calls.{unsatisfiedOf, encodingOf}
 use Rattle.ldpc.proofs.Made.{sized}
 use Rattle.ldpc.proofs.CodeEdges.{code-simple}
-use Rattle.ldpc.proofs.Encoded.{encoded-length}
-use Rattle.ldpc.proofs.Theorems.{codeword}
+use Rattle.coder.specs.Calls.{unsatisfiedOf, encodingOf}
+use Rattle.coder.proofs.Encoded.{encoded-length}
+use Rattle.coder.proofs.Theorems.{codeword}
 use Rattle.decoder.proofs.Regions.{length-all, sent-at, channel-at}
 use Rattle.decoder.specs.Decoding.{certain, alpha, channelOf, startMemory, iterated, unbroken, wordOf, resultOf}
 

@@ -9,9 +9,8 @@ use Rattle.refusals.specs.Told.{Told, gave, refused, refusedBy, after, ifLength
 use Rattle.ldpc.specs.declared.choice.Code.{Code}
 use Rattle.ldpc.specs.declared.choice.Choice.{Choice}
 use Rattle.ldpc.specs.declared.choice.Choice.the-variants as choice
-use Rattle.ldpc.specs.Choice.{chosen}
+use Rattle.ldpc.specs.Choice.{chosen, ifMade}
 use Rattle.ldpc.specs.Code.{workOf}
-use Rattle.ldpc.specs.Calls.{ifMade}
 use Rattle.decoder.specs.declared.record.Decode.{Decode}
 use Rattle.decoder.specs.declared.record.DecodeResult.{DecodeResult}
 use Rattle.decoder.specs.declared.record.Granted.{Granted}

@@ -15,7 +15,7 @@ use Rattle.messages.specs.Memory.{bitsOf, slotsOf, toChecks, toBits}
 use Rattle.messages.specs.Iteration.{iteration, decision, settled}
 use Rattle.ldpc.specs.declared.choice.Code.{Code}
 use Rattle.ldpc.specs.Code.{codeGraph, infoEnd}
-use Rattle.ldpc.specs.Calls.{unsatisfiedOf}
+use Rattle.coder.specs.Calls.{unsatisfiedOf}
 use Rattle.decoder.specs.declared.record.Decode.{Decode}
 use Rattle.decoder.specs.declared.record.DecodeResult.{DecodeResult}
 

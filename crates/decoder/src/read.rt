@@ -16,7 +16,7 @@ ghost use Rattle.matrix.specs.Encoding.{bit};
 ghost use Rattle.messages.specs.Memory.{reading};
 ghost use Rattle.bits.specs.Sums.{Bits};
 ghost use Rattle.ldpc.specs.Choice.{made};
-ghost use Rattle.ldpc.specs.Calls.{unsatisfiedOf};
+ghost use Rattle.coder.specs.Calls.{unsatisfiedOf};
 ghost use Rattle.minsum.specs.Lent.{Ready};
 ghost use Rattle.decoder.specs.Decoding.{progressOf, wordOf, resultOf};
 ghost use Rattle.decoder.specs.Calls.{toldResult, readTold, readWritten};
@@ -57,7 +57,7 @@ fn is_clean(c: Code, converged: bool, word: &[u8]) -> bool
     ensures { λ r. ⌜ r ≡ (converged && eqb (unsatisfiedOf c (now (word .entry))) 0) ⌝ }
 {
     if converged {
-        return ldpc::unmet_checks(c, word) == 0;
+        return coder::unmet_checks(c, word) == 0;
     }
     false
 }

@@ -2,7 +2,7 @@
 use mathlib.Core.List.{List}
 use Prim.Native.Nat.{ℕ}
 use Rattle.ldpc.specs.declared.choice.Code.{Code}
-use Rattle.ldpc.specs.Calls.{encodeWritten}
+use Rattle.coder.specs.Calls.{encodeWritten}
 use Rattle.readings.specs.Generator.{randomBits}
 
 -- n bits of information, the same for all readings of a code

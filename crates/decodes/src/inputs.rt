@@ -22,7 +22,7 @@ fn write_readings(
     ensures { λ _. ⌜ now (rx .exit) ≡ readingsOf kind seed (sent c (length (now (info .entry))) (now (word .entry))) (length (now (rx .entry))) ⌝ }
 {
     fill_bits(info, 4321);
-    c.encode(info, word);
+    coder::encode(c, info, word);
     fill_readings(kind, seed, word, rx);
 }
 

@@ -4,7 +4,7 @@ ghost use mathlib.Core.Path.{_≡_};
 ghost use mathlib.Core.List.{_++_};
 ghost use lib.ListN.{length, drop};
 ghost use Rattle.refusals.specs.Told.{after};
-ghost use Rattle.ldpc.specs.Calls.{codeMembers, encodingOf};
+ghost use Rattle.coder.specs.Calls.{codeMembers, encodingOf};
 ghost use Rattle.boundary.specs.Answers.{codeIn, one, none, numberTold, answered};
 ghost use Rattle.boundary.specs.Calls.{membersAt, unsatisfiedAt, encodeAt};
 
@@ -27,7 +27,7 @@ pub extern "C" fn fuyegbo_check_members(
         return boundary::refuse(Refusal::Input(code.len(), 6), answer);
     }
     let c = boundary::code_in(code);
-    boundary::counted(c.check_members(check, out), answer)
+    boundary::counted(coder::check_members(c, check, out), answer)
 }
 
 // How many checks a word does not meet.
@@ -43,7 +43,7 @@ pub extern "C" fn fuyegbo_unsatisfied(code: &[usize], word: &[u8], answer: &mut 
         return boundary::refuse(Refusal::Input(code.len(), 6), answer);
     }
     let c = boundary::code_in(code);
-    boundary::counted(c.unsatisfied(word), answer)
+    boundary::counted(coder::unsatisfied(c, word), answer)
 }
 
 // Encodes k information bits into n_tx transmitted ones.
@@ -65,5 +65,5 @@ pub extern "C" fn fuyegbo_encode(
         return boundary::refuse(Refusal::Input(code.len(), 6), answer);
     }
     let c = boundary::code_in(code);
-    boundary::filled(c.encode(info, out), answer)
+    boundary::filled(coder::encode(c, info, out), answer)
 }

@@ -1,31 +1,15 @@
--- The tests of the refusals, passed and not. Assumes nothing.
+-- Refusal 11's test, passed and not. Assumes nothing.
 use mathlib.Core.Path.{_≡_}
 use mathlib.Core.Bool.{true, false}
-use mathlib.Core.List.{List}
-use Prim.Native.Nat.{ℕ, _<_, _≤_}
-use borrow.Author.Tests.{lt-ltb, le-ltb}
-use lib.ListN.{length, getD}
 use Rattle.refusals.specs.Told.{Told, refused}
-use Rattle.bits.specs.Words.{firstNotBit}
 use Rattle.ldpc.specs.declared.choice.Code.{Code}
-use Rattle.ldpc.specs.Choice.{made}
-use Rattle.ldpc.specs.Calls.{ifMade, ifBits}
+use Rattle.ldpc.specs.Choice.{made, ifMade}
 
-module _ {A : Type 0} (rest : Told A) where
-  module _ (c : Code) where
-    pub made-passed : made c ≡ true → ifMade c rest ≡ rest
-    unfolding ifMade
-    made-passed h = rw h
+module _ {A : Type 0} (rest : Told A) (c : Code) where
+  pub made-passed : made c ≡ true → ifMade c rest ≡ rest
+  unfolding ifMade
+  made-passed h = rw h
 
-    pub made-refused : made c ≡ false → ifMade c rest ≡ refused 11 (c .rate) (c .«n_tx»)
-    unfolding ifMade
-    made-refused h = rw h
-
-  module _ (word : List ℕ) where
-    pub bits-passed : length word ≤ firstNotBit word → ifBits word rest ≡ rest
-    unfolding ifBits
-    bits-passed h = rw (le-ltb (firstNotBit word) (length word) h)
-
-    pub bits-refused : firstNotBit word < length word → ifBits word rest ≡ refused 6 (firstNotBit word) (getD word (firstNotBit word) 0)
-    unfolding ifBits
-    bits-refused h = rw (lt-ltb (firstNotBit word) (length word) h)
+  pub made-refused : made c ≡ false → ifMade c rest ≡ refused 11 (c .rate) (c .«n_tx»)
+  unfolding ifMade
+  made-refused h = rw h

@@ -1,4 +1,4 @@
--- The choice of a code: 01, "Choice". Assumes nothing.
+-- The choice of a code: 01, "Choice"; and refusal 11, of a record that it does not give. Assumes nothing.
 use mathlib.Core.Bool.{Bool, false, cond, _&&_}
 use Prim.Native.Nat.{ℕ, _+_, _*_, _/_, _-_, min, max}
 use lib.Dec.{ltb, eqb}
@@ -61,3 +61,7 @@ isGiven (refused n a b) c = false
 -- refusal 11's test: the record is the one that Choice gives for its rate and n_tx
 unfoldable pub made : Code → Bool
 made c = isGiven (chosen (c .rate) (c .«n_tx»)) c
+
+-- refusal 11, before all others
+unfoldable pub ifMade : {A : Type 0} → Code → Told A → Told A
+ifMade c rest = cond (made c) rest (refused 11 (c .rate) (c .«n_tx»))

@@ -46,7 +46,7 @@ fn print_sum(members: &[u32], n: usize) {
 // One check: a check has fewer than 64 members.
 fn print_check(c: Code, check: usize, full: bool) {
     let mut members: [u32; 64] = [0; 64];
-    let counted = c.check_members(check, &mut members);
+    let counted = coder::check_members(c, check, &mut members);
     match counted {
         Counted::Count(n) => {
             if full {

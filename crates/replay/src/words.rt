@@ -7,7 +7,7 @@ use refusals::Filled;
 ghost use mathlib.Core.Path.{_≡_};
 ghost use Prim.Native.Nat.{_≤_};
 ghost use lib.ListN.{length};
-ghost use Rattle.ldpc.specs.Calls.{encodeWritten};
+ghost use Rattle.coder.specs.Calls.{encodeWritten};
 ghost use Rattle.readings.specs.Generator.{randomBits};
 ghost use Rattle.replay.specs.Inputs.{changed};
 
@@ -22,7 +22,7 @@ fn print_encoded(answer: Filled, word: &[u8]) {
 // What is being counted is named before the count.
 fn print_count(c: Code, kind: &[u8], word: &[u8]) {
     text::print_bytes(kind);
-    let counted = c.unsatisfied(word);
+    let counted = coder::unsatisfied(c, word);
     match counted {
         Counted::Count(n) => text::print_number(n, b'\n'),
         Counted::Refused(r) => text::print_refusal(r, b'\n'),
@@ -32,7 +32,7 @@ fn print_count(c: Code, kind: &[u8], word: &[u8]) {
 // An encoding of too many bits: that is refused before the output's length is looked at.
 fn print_refused(c: Code, given: &[u8]) {
     let mut out: [u8; 1] = [0; 1];
-    let answer = c.encode(given, &mut out);
+    let answer = coder::encode(c, given, &mut out);
     print_encoded(answer, &out);
 }
 
@@ -55,7 +55,7 @@ fn print_answers(c: Code, seed: usize, info: &mut [u8], word: &mut [u8])
     ensures { λ _. ⌜ now (word .exit) ≡ changed (encodeWritten c (randomBits seed (length (now (info .entry)))) (now (word .entry))) ⌝ }
 {
     fill_bits(info, seed);
-    let answer = c.encode(info, word);
+    let answer = coder::encode(c, info, word);
     print_encoded(answer, word);
     print_changed(c, word);
     print_refused(c, word);

@@ -4,7 +4,7 @@ use ldpc::Code;
 ghost use mathlib.Core.Path.{_≡_};
 ghost use Prim.Native.Nat.{_<_, _%_};
 ghost use lib.ListN.{length};
-ghost use Rattle.ldpc.specs.Calls.{encodeWritten};
+ghost use Rattle.coder.specs.Calls.{encodeWritten};
 ghost use Rattle.readings.specs.Generator.{randomBits};
 ghost use Rattle.readings.specs.Kinds.{readingsOf};
 ghost use Rattle.soak.specs.Inputs.{spreadLength};
@@ -15,7 +15,7 @@ pub fn fill_inputs(c: Code, seed: usize, info: &mut [u8], word: &mut [u8], rx: &
     ensures { λ _. ⌜ now (rx .exit) ≡ readingsOf (seed % 6) seed (encodeWritten c (randomBits seed (length (now (info .entry)))) (now (word .entry))) (length (now (rx .entry))) ⌝ }
 {
     readings::fill_bits(info, seed);
-    c.encode(info, word);
+    coder::encode(c, info, word);
     readings::fill_readings(seed % 6, seed, word, rx);
 }
 

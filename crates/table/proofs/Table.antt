@@ -24,7 +24,7 @@ use Rattle.messages.specs.Memory.{bitsOf, slotsOf, toChecks, toBits}
 use Rattle.messages.specs.Iteration.{gathered, answer, toBit, checkPass, added, total, totalPass, sendPass, iteration, decision, settled}
 use Rattle.ldpc.specs.Choice.{liftOf, serves, codeOf, triedFrom, chosen}
 use Rattle.ldpc.specs.Code.{codeGraph, infoEnd}
-use Rattle.ldpc.specs.Calls.{encodingOf, unsatisfiedOf}
+use Rattle.coder.specs.Calls.{encodingOf, unsatisfiedOf}
 use Rattle.decoder.specs.Decoding.{channelOf, startMemory, iterated, unbroken, resultOf, wordOf}
 use Rattle.table.specs.Table.{Row, among, readings, table, sameWord, isRefused, meets, hasSizes, sameResult, readsAs, holds, allHold}
 

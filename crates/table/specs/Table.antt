@@ -11,7 +11,7 @@ use Rattle.laws.specs.Written.{tabulate}
 use Rattle.refusals.specs.Told.{Told, gave, refused}
 use Rattle.ldpc.specs.declared.choice.Code.{Code}
 use Rattle.ldpc.specs.Choice.{chosen}
-use Rattle.ldpc.specs.Calls.{encodingOf, unsatisfiedOf}
+use Rattle.coder.specs.Calls.{encodingOf, unsatisfiedOf}
 use Rattle.decoder.specs.declared.record.DecodeResult.{DecodeResult}
 use Rattle.decoder.specs.Decoding.{alpha, unbroken, resultOf, wordOf}
 use Rattle.decoder.specs.Calls.{byCode}

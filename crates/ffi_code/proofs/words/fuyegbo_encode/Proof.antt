@@ -2,7 +2,7 @@
 use mathlib.Core.Path.{_≡_, sym, ap, _∙_}
 use Rattle.boundary.proofs.Answered.{no-answer, has-answer, left-answer, no-code, has-code, number-of, kept, pair-of, number-as, after-as, answer-as}
 use lib.ListN.{length}
-use Rattle.ldpc.specs.Calls.{encodeTold, encodeWritten}
+use Rattle.coder.specs.Calls.{encodeTold, encodeWritten}
 use Rattle.boundary.specs.Calls.{encodeAt}
 use borrow.Author.Needs.{needs}
 use Rattle.ffi_code.proofs.words.fuyegbo_encode.Statement.{statement}

@@ -1,7 +1,7 @@
 -- `fuyegbo_unsatisfied` meets its contract. Assumes nothing.
 use mathlib.Core.Path.{_≡_, sym, ap, _∙_}
 use Rattle.boundary.proofs.Answered.{no-answer, has-answer, left-answer, no-code, has-code, number-of, pair-of, number-as, answer-as}
-use Rattle.ldpc.specs.Calls.{unsatisfiedTold}
+use Rattle.coder.specs.Calls.{unsatisfiedTold}
 use Rattle.boundary.specs.Calls.{unsatisfiedAt}
 use borrow.Author.Needs.{needs}
 use Rattle.ffi_code.proofs.words.fuyegbo_unsatisfied.Statement.{statement}

@@ -1,0 +1,63 @@
+// Sums modulo 2 of bits over base edges: the syndrome of a word, and the information sums of an encoding. A column of the
+// lifted word is turned in two runs, so that no bit asks for a remainder.
+use bits::Part;
+use ldpc::Code;
+use tables::Shape;
+ghost use mathlib.Core.Path.{_≡_};
+ghost use mathlib.Core.Bool.{true};
+ghost use Prim.Native.Nat.{_+_, _<_, _≤_};
+ghost use lib.ListN.{length};
+ghost use Rattle.matrix.specs.Edges.{edges};
+ghost use Rattle.bits.specs.Edge.{graphIn};
+ghost use Rattle.bits.specs.Sums.{Bits};
+ghost use Rattle.ldpc.specs.Choice.{made};
+ghost use Rattle.ldpc.specs.Code.{codeGraph, checksOf};
+ghost use Rattle.coder.specs.Sums.{PartOf, sumsOf};
+
+// The column of a code's lifted word in a transmitted one.
+fn part_of(c: Code, k_b: usize, column: usize, word: &[u8]) -> Part
+    requires { ⌜ (made c ≡ true) × («k_b» ≡ codeGraph c .shape .«k_b») × (column < codeGraph c .shape .«n_b») ⌝ }
+    ensures { λ r. ⌜ PartOf c (now (word .entry)) column r ⌝ }
+{
+    if column < k_b {
+        return bits::clipped(column * c.z, c.z, numbers::lesser(c.k, word.len()));
+    }
+    bits::clipped(c.k + (column - k_b) * c.z, c.z, word.len())
+}
+
+// Adds the bits of base edge b to the sums over the edges before it.
+fn add_edge<'a>(
+    c: Code,
+    s: Shape,
+    rows: &'a [u8; 153],
+    shifts: &'a [u16; 153],
+    word: &[u8],
+    b: usize,
+    sums: &mut [u8],
+)
+    requires { ⌜ (made c ≡ true) × (graphIn s (now rows) (now shifts) ≡ codeGraph c) × (b < edges (codeGraph c)) × Bits (now word) × (now sums ≡ sumsOf c (now word) b) ⌝ }
+    ensures { λ _. ⌜ now (sums .exit) ≡ sumsOf c (now (word .entry)) (b + 1) ⌝ }
+{
+    let z = c.z;
+    let e = bits::edge_at(s, rows, shifts, b);
+    let part = part_of(c, s.k_b, e.column, word);
+    let turn = bits::rotated(0, e.shift, z);
+    bits::add_turned(sums, e.row * z, word, part, turn, z);
+}
+
+// Writes the sums over the first n base edges, for every check.
+pub fn row_sums(c: Code, word: &[u8], n: usize, sums: &mut [u8])
+    requires { ⌜ (made c ≡ true) × (n ≤ edges (codeGraph c)) × (length (now sums) ≡ checksOf c) × Bits (now word) ⌝ }
+    ensures { λ _. ⌜ now (sums .exit) ≡ sumsOf c (now (word .entry)) n ⌝ }
+{
+    let g = tables::graph_of(c.rate, c.family);
+    let s = g.shape;
+    let rows = g.rows;
+    let shifts = g.shifts;
+    bits::clear(sums);
+    let mut b = 0;
+    while b < n {
+        add_edge(c, s, &rows, &shifts, word, b, sums);
+        b += 1;
+    }
+}
