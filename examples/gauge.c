@@ -1,8 +1,6 @@
 /* A block's way from the gauge to the surface: encode, disturb, decode between motor scans, read.
  *
- *    rt staticlib ffi
- *    cc -std=c99 -Wall -Wextra -Werror -pedantic -Iinclude examples/gauge.c target/staticlib/libffi.a -o target/gauge
- *    target/gauge
+ *    ./archive && cc -std=c99 -Wall -Wextra -Iinclude examples/gauge.c target/staticlib/libfuyegbo.a -o target/gauge && target/gauge
  *
  * All memory is static and of fixed size; nothing is allocated here or in the library. */
 #include <stdio.h>
@@ -17,8 +15,6 @@ enum {
     GRANT = 2,   /* iterations that one gap between scans has time for */
     SCANS = 25   /* scans that a block may take */
 };
-
-enum { CODE_K = 4, DECODE_CONVERGED = 7 }; /* places in the records, as the header lists them */
 
 static uint8_t info[N_TX]; /* the first k places are used */
 static uint8_t sent[N_TX];
@@ -67,7 +63,7 @@ static size_t wrong_bits(const uint8_t *bits) {
 int main(void) {
     /* The code, and whether its work memory fits into what we have. */
     must(fuyegbo_code(RATE, N_TX, code, FUYEGBO_CODE, answer, FUYEGBO_ANSWER), "code");
-    size_t k = code[CODE_K];
+    size_t k = code[FUYEGBO_K];
     must(fuyegbo_work_needed(code, FUYEGBO_CODE, answer, FUYEGBO_ANSWER), "work_needed");
     printf("code: %zu information bits in %d, work memory %zu of %d floats\n", k, N_TX, answer[0], WORK);
 
@@ -89,7 +85,7 @@ int main(void) {
     size_t before = wrong_bits(word);
     printf("as heard: %zu of %d bits wrong\n", before, N_TX);
 
-    for (int scan = 1; scan <= SCANS && decode[DECODE_CONVERGED] == 0; scan++) {
+    for (int scan = 1; scan <= SCANS && decode[FUYEGBO_CONVERGED] == 0; scan++) {
         must(fuyegbo_grant(decode, FUYEGBO_DECODE, GRANT, work, WORK, answer, FUYEGBO_ANSWER), "grant");
         must(fuyegbo_read(decode, FUYEGBO_DECODE, work, WORK, word, N_TX, answer, FUYEGBO_ANSWER), "read");
         size_t iterations = answer[0];

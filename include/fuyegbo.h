@@ -38,10 +38,21 @@
 extern "C" {
 #endif
 
+/* The places of a record's numbers, and the sizes. */
 enum {
+    FUYEGBO_RATE,        /* 0 to 5 */
+    FUYEGBO_N_TX,        /* transmitted bits */
+    FUYEGBO_FAMILY,      /* 0 large, 1 small, 2 tiny */
+    FUYEGBO_Z,           /* the lift */
+    FUYEGBO_K,           /* information bits */
+    FUYEGBO_SHORTENED,   /* information bits that are fixed to 0 and not sent */
+    FUYEGBO_CODE,        /* how many numbers a code record has; a decode record begins with one */
+    FUYEGBO_ITERATIONS = FUYEGBO_CODE,
+    FUYEGBO_CONVERGED,   /* 0 or 1 */
+    FUYEGBO_DECODE,      /* how many numbers a decode record has */
     FUYEGBO_ANSWER = 3,
-    FUYEGBO_CODE = 6,   /* rate 0..5, n_tx, family (0 large, 1 small, 2 tiny), lift z, information bits k, shortened bits */
-    FUYEGBO_DECODE = 8  /* the code record, then iterations 0..65535 and converged 0 or 1 */
+    FUYEGBO_MAX_N_TX = 19440,
+    FUYEGBO_MAX_WORK = 150336 /* the most floats of work memory that any code needs */
 };
 
 /* The code for n_tx transmitted bits at a rate; a rate above 5 counts as 5. Writes its record to `code`.

@@ -1,9 +1,9 @@
-//! Finds the archive: in FUYEGBO_LIB_DIR, else where `rt staticlib` leaves it.
+//! Finds the archive: in FUYEGBO_LIB_DIR, else where `archive` leaves it.
 use std::env;
 use std::path::PathBuf;
 
 /// The archive is libNAME.a.
-const NAME: &str = "ffi";
+const NAME: &str = "fuyegbo";
 
 fn main() {
     println!("cargo:rerun-if-env-changed=FUYEGBO_LIB_DIR");
@@ -18,7 +18,7 @@ fn main() {
     // Told here, since the linker might take another library of that name.
     assert!(
         archive.is_file(),
-        "there is no {}: run `rt staticlib {NAME}`, or set FUYEGBO_LIB_DIR to the archive's folder",
+        "there is no {}: run ./archive at the repository's root, or set FUYEGBO_LIB_DIR to the archive's folder",
         archive.display()
     );
     println!("cargo:rustc-link-search=native={}", dir.display());

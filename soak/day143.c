@@ -29,7 +29,6 @@ enum {
     MOST_SUM = 40       /* iterations granted to a block */
 };
 
-enum { CODE_K = 4, DECODE_ITERATIONS = 6, DECODE_CONVERGED = 7 }; /* places in the records */
 enum { ITERATIONS, CONVERGED, CLEAN };                            /* places in a read's answer */
 
 /* The one memory. A number more than is lent, as a guard. */
@@ -143,7 +142,7 @@ static int same_numbers(const float *a, const float *b, size_t n) {
 static void read_word(const size_t *decode) {
     size_t number = fuyegbo_read(decode, FUYEGBO_DECODE, work, MOST_WORK, word, n_tx, answer, FUYEGBO_ANSWER);
     must(number == 0, "read refused");
-    must(answer[ITERATIONS] == decode[DECODE_ITERATIONS] && answer[CONVERGED] == decode[DECODE_CONVERGED],
+    must(answer[ITERATIONS] == decode[FUYEGBO_ITERATIONS] && answer[CONVERGED] == decode[FUYEGBO_CONVERGED],
          "a read tells something else than the record");
     counts.reads++;
 }
@@ -164,7 +163,7 @@ static size_t grant_all(size_t *decode, size_t limit) {
         if (below(4) == 0) {
             read_word(decode);
         }
-        more = sum < limit && (decode[DECODE_CONVERGED] == 0 || below(3) == 0);
+        more = sum < limit && (decode[FUYEGBO_CONVERGED] == 0 || below(3) == 0);
     }
     return sum;
 }
@@ -200,7 +199,7 @@ static void one_block(void) {
     size_t code[FUYEGBO_CODE];
     size_t decode[FUYEGBO_DECODE];
     drawn_code(code);
-    size_t k = code[CODE_K];
+    size_t k = code[FUYEGBO_K];
     must(fuyegbo_work_needed(code, FUYEGBO_CODE, answer, FUYEGBO_ANSWER) == 0, "work_needed refused");
     size_t needed = answer[0];
     must(needed <= MOST_WORK, "more work memory needed than there is");
