@@ -1,7 +1,8 @@
 -- Laws of f32 numbers. (1) `magnitude-kept`, `magnitude-turned`: the larger of m and 0 - m is the magnitude of m.
 -- (2) `infinite-plain`, `either-plain`, `lesser-plain`: the lesser of a magnitude and a plain number is plain.
 -- (3) `sum-sided`: a number stays on its side of zero when one that leans there is added to it.
--- (4) `product-leans`: a factor above zero with a sign put on it, times a plain number, leans to that sign. Assumes nothing.
+-- (4) `product-leans`: a factor above zero with a sign put on it, times a plain number, leans to that sign.
+-- (5) `tied`: two magnitudes, neither below the other, are one. Assumes nothing.
 use mathlib.Core.Path.{_≡_, refl, sym, ap, _∙_}
 use mathlib.Core.Bool.{Bool, true, false, not, _&&_, Bool·beq, cond, and-true, and-false, true≢false, false≢true}
 use Prim.Native.Nat.{ℕ, zero, suc, _+_, _-_, _*_, _/_, _%_, _^_, _≤_, _<_}
@@ -485,3 +486,20 @@ unfolding lt magnitude
 lesser-plain nan x P = P
 lesser-plain (inf s) x P = either-plain (lt (inf false) x) (inf false) x infinite-plain P
 lesser-plain (fin s m e) x P = either-plain (lt (fin false m e) x) (fin false m e) x (toward-plain (fin false m e) (λ l. refl)) P
+
+-- ---- (5) two magnitudes, neither below the other
+pub tied : (x y : Float) → fits binary32 x ≡ true → fits binary32 y ≡ true
+    → isNan (magnitude x) ≡ false → isNan (magnitude y) ≡ false
+    → lt (magnitude x) (magnitude y) ≡ false → lt (magnitude y) (magnitude x) ≡ false → magnitude x ≡ magnitude y
+unfolding magnitude lt isNan
+tied nan y p q n o l r = absurd (true≢false n)
+tied (inf s) nan p q n o l r = absurd (true≢false o)
+tied (inf s) (inf t) p q n o l r = refl
+tied (inf s) (fin t k d) p q n o l r = absurd (true≢false r)
+tied (fin s m e) nan p q n o l r = absurd (true≢false o)
+tied (fin s m e) (inf t) p q n o l r = absurd (true≢false l)
+tied (fin s m e) (fin t k d) p q n o l r =
+    let same : m * up e * down d ≡ k * up d * down e =
+    omega (arith, ltb-false (m * up e * down d) (k * up d * down e) l, ltb-false (k * up d * down e) (m * up e * down d) r) in
+    one-value binary32 (fin false m e) (fin false k d) false (k * up d) (down d) (down-pos d)
+    (any-sign binary32 s false m e (rw p tt)) (any-sign binary32 t false k d (rw q tt)) (refl, same) (refl, refl)

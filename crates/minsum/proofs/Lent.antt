@@ -20,7 +20,8 @@ use Rattle.ldpc.proofs.CodeEdges.{code-simple}
 use Rattle.lists.specs.Lists.{orderOf, startsOf, perEdge}
 use Rattle.lists.proofs.Filled.{per-edge-at}
 use Rattle.minsum.specs.declared.sizes.Sizes.{Sizes}
-use Rattle.minsum.specs.Runs.{Within, Joined}
+use Rattle.checks.specs.Row.{Within}
+use Rattle.minsum.specs.Runs.{Joined}
 use Rattle.minsum.specs.Lent.{sizesOf, Ready, Rows, Edges}
 
 pub record Known (c : Code) (s : Sizes) (len : ℕ) : Type 0 where

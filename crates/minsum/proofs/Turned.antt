@@ -8,7 +8,7 @@ use lib.Ieee.{Float, nan, add, sub, binary32}
 use Rattle.laws.proofs.Slots.{turned-low, turned-high, back-low, back-high}
 use Rattle.laws.proofs.Written.{runs, low, high}
 use Rattle.messages.specs.Memory.{reading}
-use Rattle.minsum.specs.Runs.{Ran}
+use Rattle.checks.specs.Row.{Ran}
 
 -- a place of a memory, by another sum
 place : (w : List Float) (i j : ℕ) → i ≡ j → getD w i nan ≡ getD w j nan

@@ -28,7 +28,8 @@ use Rattle.matrix.proofs.Simple.{Simple}
 use Rattle.messages.specs.Memory.{bitsOf, slotsOf, toChecks, toBits, needed, reading}
 use Rattle.messages.specs.Iteration.{answer, toBit, checkPass, added, total, totalPass, ofBit, spreadPass, toCheck, sendPass, decision, settled}
 use Rattle.messages.proofs.Local.{answer-agrees}
-use Rattle.minsum.specs.Runs.{Of, Ran, RowDone, EdgeDone, EdgeAdded, Summed, oddOf, rowMet}
+use Rattle.checks.specs.Row.{Of, Ran}
+use Rattle.minsum.specs.Runs.{RowDone, EdgeDone, EdgeAdded, Summed, oddOf, rowMet}
 
 module _ (g : BaseGraph) (z : ℕ) (lift : 0 < z) where
   -- the slots, and the row of one

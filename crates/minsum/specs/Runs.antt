@@ -1,5 +1,4 @@
--- What the inner loops read and write, in their own terms: the base edges of a check as a list, and runs of numbers. Assumes
--- nothing.
+-- What the passes read and write, a base row or a base edge at a time. Assumes nothing.
 use mathlib.Core.Path.{_≡_}
 use mathlib.Core.Bool.{Bool, false, not, xor}
 use mathlib.Core.List.{List}
@@ -14,24 +13,7 @@ use Rattle.matrix.specs.Edges.{edgeRow, edgesByRow}
 use Rattle.matrix.specs.Checks.{checkSum}
 use Rattle.messages.specs.Memory.{bitsOf, slotsOf, toChecks, toBits, reading}
 use Rattle.messages.specs.Iteration.{toBit, added, decision}
-
--- slot s is one of the first n base edges of l
-pub record Of (l : List ℕ) (n z s : ℕ) : Type 0 where
-  pub index : ℕ
-  pub inside : index < n
-  pub is : getD l index 0 ≡ s / z
-
--- and its offset is t
-abbrev pub Check : List ℕ → ℕ → ℕ → ℕ → ℕ → Type 0
-Check l n z t = At (Of l n z) (λ s. s % z) t
-
--- the slots of the base edges l, in the region from a place on, end before another place
-abbrev pub Within : ℕ → ℕ → ℕ → List ℕ → Type 0
-Within z from end l = (i : ℕ) → i < length l → from + (getD l i 0 * z + z) ≤ end
-
--- n numbers from `at` on get f
-abbrev pub Ran : ℕ → ℕ → (ℕ → Float) → List Float → List Float → Type 0
-Ran at n f w w′ = Written nan at (λ i. i < n) f w w′
+use Rattle.checks.specs.Row.{Ran}
 
 -- the checks of base row r have sent their messages to bits
 abbrev pub RowDone : Float → BaseGraph → ℕ → ℕ → List Float → List Float → Type 0

@@ -1,6 +1,5 @@
 // One iteration of normalised min-sum over the work memory: 01, "Iteration".
 // What these functions require, their callers in this and the decoder's crate meet.
-mod checks;
 mod passes;
 mod runs;
 mod sizes;

@@ -1,5 +1,4 @@
 // The passes of an iteration over the whole work memory, and the convergence test: each goes by the lists of the call.
-use crate::checks::check_row;
 use crate::runs::add_turned;
 use crate::runs::copy_run;
 use crate::runs::copy_turned;
@@ -25,7 +24,7 @@ fn row_pass(c: Code, s: Sizes, order: &[u8], start: &[u8], r: usize, factor: f32
     let from = 2 * s.bits;
     let lo = numbers::wide8(start[r]);
     let hi = numbers::wide8(start[r + 1]);
-    check_row(work, from, from + s.slots, c.z, &order[lo..hi], factor);
+    checks::check_row(work, from, from + s.slots, c.z, &order[lo..hi], factor);
 }
 
 // What every check sends to its bits.

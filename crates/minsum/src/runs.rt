@@ -1,7 +1,7 @@
 // The bit pass by runs of numbers, and the convergence test. A column is turned in two runs, so that no bit asks for a
 // remainder.
-use crate::slots::slot;
 use crate::slots::turned;
+use checks::slot;
 ghost use mathlib.Core.Path.{_≡_};
 ghost use mathlib.Core.Bool.{not};
 ghost use Prim.Native.Nat.{ℕ, _+_, _*_, _-_, _%_, _<_, _≤_};
@@ -10,7 +10,8 @@ ghost use lib.Ieee.{add, sub, binary32};
 ghost use Rattle.laws.specs.Range.{every};
 ghost use Rattle.laws.specs.Floats.{negative};
 ghost use Rattle.messages.specs.Memory.{reading};
-ghost use Rattle.minsum.specs.Runs.{Ran, oddOf, Joined};
+ghost use Rattle.checks.specs.Row.{Ran};
+ghost use Rattle.minsum.specs.Runs.{oddOf, Joined};
 
 // Copies n numbers, from `from` on, to the places from `at` on.
 pub fn copy_run(work: &mut [f32], at: usize, from: usize, n: usize)

@@ -1,8 +1,9 @@
 -- The check rule of normalised min-sum (Chen and Fossorier), one message at a time: 01, "Iteration". Assumes nothing.
+use mathlib.Core.Path.{_≡_}
 use mathlib.Core.Bool.{false, cond, xor}
 use Prim.Native.Nat.{ℕ}
 use lib.Dec.{eqb}
-use lib.Ieee.{Float, inf, lt, mul, binary32}
+use lib.Ieee.{Float, inf, isNan, lt, mul, binary32}
 use Rattle.laws.specs.Floats.{negative, magnitude, signed}
 use Rattle.rule.specs.declared.Least.{Least}
 
@@ -19,6 +20,12 @@ taken l m place =
       argmin = cond (lt (magnitude m) (l .«min1»)) place (l .argmin);
       sign = xor (l .sign) (negative m);
     }
+
+-- the least magnitude is a number with its sign bit clear, and it is not above the second
+pub record Ordered (l : Least) : Type 0 where
+  pub number : isNan (l .«min1») ≡ false
+  pub cleared : magnitude (l .«min1») ≡ l .«min1»
+  pub lesser : cond (lt (l .«min1») (l .«min2»)) (l .«min1») (l .«min2») ≡ l .«min1»
 
 -- what the check sends to the place that sent it m: (factor × sign) × magnitude, each product rounded once; the magnitude is
 -- the least of the others', and the sign the product of theirs

@@ -1,16 +1,18 @@
-// The check rule of normalised min-sum, one message at a time: 01, "Iteration". Every choice between two values is a select,
-// so that no branch hangs on the readings. Assumes nothing.
+// The check rule of normalised min-sum, one message at a time: 01, "Iteration". Every choice between two values is a minimum,
+// a maximum or a select, so that no branch hangs on the readings. `with` requires an ordered record, which `new` gives and
+// `with` keeps. Assumes nothing.
 ghost use mathlib.Core.Path.{_≡_};
 ghost use mathlib.Core.Bool.{cond, xor};
+ghost use lib.Ieee.{lt};
 ghost use Rattle.laws.specs.Floats;
-ghost use Rattle.rule.specs.Rule.{started, taken, answered};
+ghost use Rattle.rule.specs.Rule.{Ordered, started, taken, answered};
 
 // What the messages to a check come to: the smallest magnitude, the second smallest, the place of the smallest, and whether
 // an odd number of them are negative.
 pub struct Least {
     pub min1: f32,
     pub min2: f32,
-    pub argmin: usize,
+    pub argmin: u32,
     pub sign: bool,
 }
 
@@ -43,6 +45,19 @@ fn signed(negative: bool) -> f32
     if negative { -1.0 } else { 1.0 }
 }
 
+// A minimum and a maximum in the form that is one instruction: b where neither is below the other, or one is NaN.
+fn lesser(a: f32, b: f32) -> f32
+    ensures { λ r. ⌜ r ≡ cond (lt a b) a b ⌝ }
+{
+    if a < b { a } else { b }
+}
+
+fn greater(a: f32, b: f32) -> f32
+    ensures { λ r. ⌜ r ≡ cond (lt b a) a b ⌝ }
+{
+    if b < a { a } else { b }
+}
+
 // A select: of magnitudes, and of places.
 fn select(first: bool, a: f32, b: f32) -> f32
     ensures { λ r. ⌜ r ≡ cond first a b ⌝ }
@@ -50,7 +65,7 @@ fn select(first: bool, a: f32, b: f32) -> f32
     if first { a } else { b }
 }
 
-fn select_place(first: bool, a: usize, b: usize) -> usize
+fn select_place(first: bool, a: u32, b: u32) -> u32
     ensures { λ r. ⌜ r ≡ cond first a b ⌝ }
 {
     if first { a } else { b }
@@ -69,21 +84,22 @@ impl Least {
     }
 
     // With one message more, m, at a place.
-    pub fn with(self, m: f32, place: usize) -> Least
+    pub fn with(self, m: f32, place: u32) -> Least
+        requires { ⌜ Ordered self ⌝ }
         ensures { λ r. ⌜ r ≡ taken self m place ⌝ }
+        ensures { λ r. ⌜ Ordered r ⌝ }
     {
         let a = magnitude(m);
-        let smaller = a < self.min1;
         Least {
-            min1: select(smaller, a, self.min1),
-            min2: select(smaller, self.min1, select(a < self.min2, a, self.min2)),
-            argmin: select_place(smaller, place, self.argmin),
+            min1: lesser(a, self.min1),
+            min2: lesser(greater(self.min1, a), self.min2),
+            argmin: select_place(a < self.min1, place, self.argmin),
             sign: flipped(self.sign, m),
         }
     }
 
     // The message to the place that sent m.
-    pub fn message(self, factor: f32, m: f32, place: usize) -> f32
+    pub fn message(self, factor: f32, m: f32, place: u32) -> f32
         ensures { λ r. ⌜ r ≡ answered factor self m place ⌝ }
     {
         let s = factor * signed(flipped(self.sign, m));

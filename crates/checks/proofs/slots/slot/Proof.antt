@@ -3,8 +3,8 @@ use Prim.Native.Nat.{_≤_}
 use native.Mathlib.Nat.{mul-le-mul}
 use native.Mathlib.Omega.{arith}
 use borrow.Author.Needs.{needs}
-use Rattle.minsum.proofs.slots.slot.Tie as tie
-use Rattle.minsum.proofs.slots.slot.Statement.{statement}
+use Rattle.checks.proofs.slots.slot.Tie as tie
+use Rattle.checks.proofs.slots.slot.Statement.{statement}
 
 mul-result : tie.Need-mul-result
 mul-result c = let h : c .args .b ≤ 255 = omega arith in omega (arith, mul-le-mul h (c .pre .1))

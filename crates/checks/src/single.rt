@@ -1,4 +1,5 @@
-// The check pass: what each check sends to its bits.
+// The checks of a base row one at a time, for the lifts below 4.
+use crate::slots::place;
 use crate::slots::slot;
 use rule::Least;
 ghost use mathlib.Core.Path.{_≡_};
@@ -9,7 +10,7 @@ ghost use Rattle.laws.specs.Written.{Written};
 ghost use Rattle.rule.specs.Rule.{answered};
 ghost use Rattle.messages.specs.Memory.{reading};
 ghost use Rattle.messages.specs.Iteration.{gathered, answer};
-ghost use Rattle.minsum.specs.Runs.{Of, Check, Within};
+ghost use Rattle.checks.specs.Row.{Of, Check, Within};
 
 // What the messages of some base edges at offset t come to; the messages stand from `from` on.
 fn gather(work: &[f32], from: usize, z: usize, t: usize, edges: &[u8]) -> Least
@@ -21,7 +22,7 @@ fn gather(work: &[f32], from: usize, z: usize, t: usize, edges: &[u8]) -> Least
     while i < edges.len() {
         let b = edges[i];
         let s = slot(b, z, t);
-        l = l.with(work[from + s], numbers::wide8(b));
+        l = l.with(work[from + s], place(b));
         i += 1;
     }
     l
@@ -46,7 +47,7 @@ fn scatter(
         let b = edges[i];
         let s = slot(b, z, t);
         let m = work[from + s];
-        work[to + s] = l.message(factor, m, numbers::wide8(b));
+        work[to + s] = l.message(factor, m, place(b));
         i += 1;
     }
 }
@@ -60,8 +61,8 @@ fn check_at(work: &mut [f32], from: usize, to: usize, z: usize, t: usize, edges:
     scatter(work, from, to, z, t, edges, l, factor);
 }
 
-// The checks of a base row, whose base edges are lent.
-pub fn check_row(work: &mut [f32], from: usize, to: usize, z: usize, edges: &[u8], factor: f32)
+// The checks of a row.
+pub fn row(work: &mut [f32], from: usize, to: usize, z: usize, edges: &[u8], factor: f32)
     requires { ⌜ (0 < z) × (z ≤ 324) × Within z from to (now edges) × Within z to (length (now work)) (now edges) ⌝ }
     ensures { λ _. ⌜ Written nan to (Of (now (edges .entry)) (length (now (edges .entry))) z) (answer factor z (now (edges .entry)) (reading (now (work .entry)) from)) (now (work .entry)) (now (work .exit)) ⌝ }
 {

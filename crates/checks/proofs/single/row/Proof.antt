@@ -1,4 +1,4 @@
--- `check_row` meets its contract. The invariant: the checks at the offsets below t are done. Assumes nothing.
+-- `row` meets its contract. The invariant: the checks at the offsets below t are done. Assumes nothing.
 use mathlib.Core.List.{List}
 use mathlib.Core.Path.{_≡_, refl, sym}
 use Prim.Native.Nat.{ℕ, _+_, _*_, _%_, _-_, _≤_, _<_}
@@ -10,11 +10,11 @@ use Rattle.laws.proofs.Slots.{slot-is}
 use Rattle.laws.proofs.Written.{Upto, upto-none, upto-run, upto-all, low}
 use Rattle.laws.specs.Written.{Written, At}
 use Rattle.messages.proofs.Local.{answer-agrees}
-use Rattle.minsum.specs.Runs.{Of, Within}
+use Rattle.checks.specs.Row.{Of, Within}
 use Rattle.messages.specs.Iteration.{answer}
 use Rattle.messages.specs.Memory.{reading}
-use Rattle.minsum.proofs.checks.check_row.Tie as tie
-use Rattle.minsum.proofs.checks.check_row.Statement.{statement}
+use Rattle.checks.proofs.single.row.Tie as tie
+use Rattle.checks.proofs.single.row.Statement.{statement}
 
 abbrev DoneUpto : ℕ → ℕ → ℕ → List ℕ → Float → ℕ → List Float → List Float → Type 0
 DoneUpto from to z edges factor t work₀ work =
@@ -74,8 +74,8 @@ same-length c = c .before .loop .inv .1 .long
 returns : tie.Need-returns Inv-loop μ-loop
 returns c = upto-all (c .before .loop .inv .1) (λ s p. omega (arith, mod-lt s (c .before .before .before .before .pre .0)))
 
-pub check-row-spec : {M : Type 1} → statement M
-check-row-spec =
+pub row-spec : {M : Type 1} → statement M
+row-spec =
     tie.close
     (tie.spec
     Inv-loop

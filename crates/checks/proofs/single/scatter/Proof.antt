@@ -13,9 +13,9 @@ use Rattle.laws.specs.Written.{Written}
 use Rattle.rule.specs.declared.Least.{Least}
 use Rattle.messages.specs.Memory.{reading}
 use Rattle.rule.specs.Rule.{answered}
-use Rattle.minsum.specs.Runs.{Check}
-use Rattle.minsum.proofs.checks.scatter.Statement.{statement}
-use Rattle.minsum.proofs.checks.scatter.Tie as tie
+use Rattle.checks.specs.Row.{Check}
+use Rattle.checks.proofs.single.scatter.Statement.{statement}
+use Rattle.checks.proofs.single.scatter.Tie as tie
 
 -- the turn i stores at the slot of its base edge
 module _ (work₀ work : List Float) (from to z t : ℕ) (edges : List ℕ) (l : Least) (factor : Float) (i s b : ℕ) (t-lt : t < z)
@@ -71,8 +71,8 @@ slice-read-m : tie.Need-slice-read-m Inv-loop μ-loop
 slice-read-m c =
     omega (arith, c .before .slot .ensures, c .before .before .before .before .before .before .before .pre .2 (c .before .before .before .before .loop .i) (c .before .before .before .loop-test .taken), c .before .before .before .before .before .before .before .pre .3 (c .before .before .before .before .loop .i) (c .before .before .before .loop-test .taken), c .before .before .before .before .loop .inv .1 .long)
 
-wide8-requires : tie.Need-wide8-requires Inv-loop μ-loop
-wide8-requires c κs = search needs
+place-requires : tie.Need-place-requires Inv-loop μ-loop
+place-requires c κs = search needs
 
 message-requires : tie.Need-message-requires Inv-loop μ-loop
 message-requires c κs = search needs
@@ -102,9 +102,9 @@ loop-again c =
     let h = c .before .before .before .before .before .loop-test .taken in (
       omega arith,
       turn (start .args .work .now) (at-loop .loop .work) (start .args .from) (start .args .to) (start .args .z) (start .args .t)
-          (start .args .edges .now) (start .args .l) (start .args .factor) i (at-slot .slot .result) (c .before .wide8 .result)
+          (start .args .edges .now) (start .args .l) (start .args .factor) i (at-slot .slot .result) (c .before .place .result)
           (start .pre .0) (at-slot .slot .ensures) (at-loop .loop .inv .1) (start .pre .2 i h) (start .pre .3 i h)
-          (c .before .wide8 .ensures) (c .message .result) (c .message .ensures),
+          (c .before .place .ensures) (c .message .result) (c .message .ensures),
     )
 
 same-length : tie.Need-same-length Inv-loop μ-loop
@@ -133,7 +133,7 @@ scatter-spec =
     add-m
     mul-m
     slice-read-m
-    wide8-requires
+    place-requires
     message-requires
     add-work
     mul-work

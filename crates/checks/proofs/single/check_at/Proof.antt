@@ -3,8 +3,8 @@ use native.Mathlib.Omega.{arith}
 use borrow.Author.Needs.{needs}
 use Rattle.laws.proofs.Written.{same}
 use Rattle.messages.specs.Iteration.{answer}
-use Rattle.minsum.proofs.checks.check_at.Tie as tie
-use Rattle.minsum.proofs.checks.check_at.Statement.{statement}
+use Rattle.checks.proofs.single.check_at.Tie as tie
+use Rattle.checks.proofs.single.check_at.Statement.{statement}
 
 gather-requires : tie.Need-gather-requires
 gather-requires c κs = let start = c .before .before .before in (start .pre .0, start .pre .1, λ i h. omega (arith, start .pre .2 i h, start .pre .3 i h))

@@ -1,5 +1,5 @@
 -- `gather` meets its contract. The invariant: the first i base edges are gathered. Assumes nothing.
-use mathlib.Core.Path.{_≡_, sym, ap, _∙_}
+use mathlib.Core.Path.{_≡_, sym, ap, _∙_, subst}
 use mathlib.Core.List.{List}
 use Prim.Native.Nat.{ℕ, _+_, _*_, _-_, _≤_, _<_}
 use native.Mathlib.Omega.{arith}
@@ -10,11 +10,12 @@ use lib.Ieee.{Float, nan}
 use Rattle.laws.specs.Range.{folded}
 use Rattle.laws.proofs.Folded.{folded-more}
 use Rattle.messages.specs.Iteration.{gathered}
-use Rattle.rule.specs.Rule.{started, taken}
+use Rattle.rule.specs.Rule.{started, taken, Ordered}
+use Rattle.rule.proofs.Ordered.{started-ordered}
 use Rattle.messages.specs.Memory.{reading}
 use Rattle.rule.specs.declared.Least.{Least}
-use Rattle.minsum.proofs.checks.gather.Statement.{statement}
-use Rattle.minsum.proofs.checks.gather.Tie as tie
+use Rattle.checks.proofs.single.gather.Statement.{statement}
+use Rattle.checks.proofs.single.gather.Tie as tie
 
 turn : (work : List Float) (from z t : ℕ) (edges : List ℕ) (i s b : ℕ) (l l′ : Least) → i < length edges → s ≡ getD edges i 0 * z + t
     → b ≡ getD edges i 0 → l ≡ gathered (reading work from) z t (take i edges) → l′ ≡ taken l (getD work (from + s) nan) b
@@ -24,7 +25,7 @@ turn work from z t edges i s b l l′ h e k p q =
     q ∙ rw (p, e, k) (sym (folded-more (λ x b. taken x (getD work (from + (b * z + t)) nan) b) started edges i h))
 
 abbrev Inv-loop : tie.InvT-loop
-Inv-loop work from z t edges l₀ i₀ l i = (i ≤ length edges) × (l ≡ gathered (reading work from) z t (take i edges))
+Inv-loop work from z t edges l₀ i₀ l i = (i ≤ length edges) × (l ≡ gathered (reading work from) z t (take i edges)) × Ordered l
 
 abbrev μ-loop : tie.MeasureT-loop
 μ-loop work from z t edges l₀ i₀ l i = length edges - i
@@ -34,7 +35,7 @@ new-requires c κs = search needs
 
 loop-holds : tie.Need-loop-holds Inv-loop μ-loop
 unfolding gathered folded started
-loop-holds c = (omega arith, c .new .ensures)
+loop-holds c = (omega arith, c .new .ensures, subst Ordered (sym (c .new .ensures)) started-ordered)
 
 shared-slice-read-b : tie.Need-shared-slice-read-b Inv-loop μ-loop
 shared-slice-read-b c = omega arith
@@ -51,8 +52,8 @@ mul-with c = omega (arith, c .slot .ensures, c .before .before .before .before .
 shared-slice-read-with : tie.Need-shared-slice-read-with Inv-loop μ-loop
 shared-slice-read-with c = omega (arith, c .before .slot .ensures, c .before .before .before .before .before .before .before .before .pre .2 (c .before .before .before .before .loop .i) (c .before .before .before .loop-test .taken))
 
-wide8-requires : tie.Need-wide8-requires Inv-loop μ-loop
-wide8-requires c κs = search needs
+place-requires : tie.Need-place-requires Inv-loop μ-loop
+place-requires c κs = search needs
 
 with-requires : tie.Need-with-requires Inv-loop μ-loop
 with-requires c κs = search needs
@@ -69,9 +70,10 @@ loop-again c =
     let start = at-loop .before .before .before .before in (
       omega arith,
       turn (start .args .work .now) (start .args .from) (start .args .z) (start .args .t) (start .args .edges .now) (at-loop .loop .i)
-          (c .before .before .before .slot .result) (c .before .wide8 .result) (at-loop .loop .l) (c .with .result)
+          (c .before .before .before .slot .result) (c .before .place .result) (at-loop .loop .l) (c .with .result)
           (c .before .before .before .before .before .loop-test .taken) (c .before .before .before .slot .ensures)
-          (c .before .wide8 .ensures) (at-loop .loop .inv .1) (c .with .ensures),
+          (c .before .place .ensures) (at-loop .loop .inv .1) (c .with .ensures .0),
+      c .with .ensures .1,
     )
 
 returns : tie.Need-returns Inv-loop μ-loop
@@ -94,7 +96,7 @@ gather-spec =
     add-with
     mul-with
     shared-slice-read-with
-    wide8-requires
+    place-requires
     with-requires
     add-i
     loop-less

@@ -1,0 +1,3 @@
+-- The laws of the check pass. Assumes nothing.
+pub mod Four
+pub mod Sent

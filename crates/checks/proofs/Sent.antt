@@ -1,0 +1,149 @@
+-- What a pair of blocks sends: the values of a block, the slots that one base edge more writes, and one pair more. Assumes nothing.
+use mathlib.Core.Path.{_≡_, refl, sym, ap, _∙_, subst}
+use mathlib.Core.Logic.{_⊎_, inl, inr}
+use mathlib.Core.List.{List}
+use Prim.Native.Nat.{ℕ, _+_, _*_, _/_, _%_, _-_, _≤_, _<_}
+use native.Mathlib.Nat.{mod-lt}
+use native.Mathlib.Decide.{ℕ-discrete, decLt}
+use native.Mathlib.Omega.{arith}
+use lib.ListN.{length, getD}
+use lib.Ieee.{Float, nan}
+use Rattle.laws.specs.Written.{Written, tabulate}
+use Rattle.laws.proofs.Written.{Upto, after, low, getD-tabulate}
+use Rattle.laws.proofs.Slots.{slot-div, slot-mod, slot-is}
+use Rattle.rule.specs.declared.Least.{Least}
+use Rattle.rule.specs.Rule.{answered}
+use Rattle.messages.specs.Memory.{reading}
+use Rattle.messages.specs.Iteration.{gathered, answer}
+use Rattle.messages.proofs.Local.{answer-agrees}
+use Rattle.checks.specs.Row.{Ran, Of, Within, Near, Pairs, past, gatheredFour}
+
+-- slot s is one of the n from k on
+abbrev Among : ℕ → ℕ → ℕ → Type 0
+Among k n s = (k ≤ s) × (s < k + n)
+
+-- a run of n places more, from slot k on, that says there what f says
+module _ {A : Type 0} {d : A} {base : ℕ} {P Q : ℕ → Type 0} {f g : ℕ → A} {w w′ w″ : List A} (k n : ℕ) where
+  pub run-more : Written d base P f w w′ → Written d (base + k) (λ j. j < n) g w′ w″ → ((j : ℕ) → j < n → g j ≡ f (k + j))
+      → ((s : ℕ) → P s → Q s) → ((j : ℕ) → j < n → Q (k + j)) → ((s : ℕ) → Q s → P s ⊎ Among k n s) → Written d base Q f w w″
+  run-more W U e old new back =
+      record {
+        long = U .long ∙ W .long;
+        at = λ s q. at-slot s q (decLt s k) (decLt s (k + n));
+        off = λ i h. U .off i (λ j l r. h (k + j) (new j l) (omega arith)) ∙ W .off i (λ s p. h s (old s p));
+      }
+    where
+      outside : (s : ℕ) → (Among k n s → ⊥) → P s ⊎ Among k n s → getD w″ (base + s) d ≡ f s
+      outside s n (inl p) = U .off (base + s) (λ j l r. n (omega arith, omega arith)) ∙ W .at s p
+      outside s n (inr q) = absurd (n q)
+
+      at-slot : (s : ℕ) → Q s → Dec (s < k) → Dec (s < k + n) → getD w″ (base + s) d ≡ f s
+      at-slot s q (yes a) b = outside s (λ r. omega (arith, r .0)) (back s q)
+      at-slot s q (no a) (no b) = outside s (λ r. b (r .1)) (back s q)
+      at-slot s q (no a) (yes b) =
+          let r : base + k + (s - k) ≡ base + s = omega arith in
+          let r′ : k + (s - k) ≡ s = omega arith in
+          subst (λ (x : ℕ). getD w″ x d ≡ f s) r (U .at (s - k) (omega arith) ∙ e (s - k) (omega arith) ∙ ap f r′)
+
+-- what a block of messages holds
+pub block-sent : (factor : Float) (z t : ℕ) (edges : List ℕ) (m : ℕ → Float) (b place : ℕ) (l : List Least) (x v : List Float) → t + 4 ≤ z
+    → place ≡ b → l ≡ gatheredFour m z t edges → ((j : ℕ) → j < 4 → getD x j nan ≡ m (b * z + t + j))
+    → v ≡ tabulate (λ j. answered factor (getD l j past) (getD x j nan) place) 4
+    → (j : ℕ) → j < 4 → getD v j nan ≡ answer factor z edges m (b * z + t + j)
+unfolding answer gatheredFour
+block-sent factor z t edges m b place l x v fits p g r e j h =
+    let is : b * z + t + j ≡ b * z + (t + j) = omega arith in
+    let own : getD l j past ≡ gathered m z (t + j) edges =
+    ap (λ y. getD y j past) g ∙ getD-tabulate past (λ j. gathered m z (t + j) edges) 4 j h in
+    ap (λ y. getD y j nan) e
+    ∙ getD-tabulate nan (λ j. answered factor (getD l j past) (getD x j nan) place) 4 j h
+    ∙ rw (own, r j h, p, is, slot-mod b z (t + j) (omega arith), slot-div b z (t + j) (omega arith))
+
+-- the slots of base edge b at the four offsets from t on
+module _ (z b t : ℕ) (fits : t + 4 ≤ z) where
+  pub in-block : (s : ℕ) → b * z + t ≤ s → s < b * z + t + 4 → (s / z ≡ b) × Near t (s % z)
+  in-block s h k =
+      let x : ℕ = s - b * z in
+      let is : s ≡ b * z + x = omega arith in
+      let l : x < z = omega arith in
+      let q : s % z ≡ x = ap (λ (y : ℕ). y % z) is ∙ slot-mod b z x l in
+      (ap (λ (y : ℕ). y / z) is ∙ slot-div b z x l, record { from = omega (arith, q); to = omega (arith, q) })
+
+  pub of-block : (s : ℕ) → s / z ≡ b → Near t (s % z) → Among (b * z + t) 4 s
+  of-block s p n = let is : s ≡ b * z + s % z = slot-is s z b (s % z) p refl in (omega (arith, n .from), omega (arith, n .to))
+
+-- base edge i of a list, at both blocks
+module _ (edges : List ℕ) (i z t u : ℕ) (t-fits : t + 4 ≤ z) (u-fits : u + 4 ≤ z) where
+  abbrev b : ℕ
+  b = getD edges i 0
+
+  abbrev Half : ℕ → Type 0
+  Half s = Pairs edges i z t u s ⊎ Among (b * z + t) 4 s
+
+  wider : (s : ℕ) → Pairs edges i z t u s → Pairs edges (i + 1) z t u s
+  wider s p = record { of = record { index = p .of .index; inside = omega (arith, p .of .inside); is = p .of .is }; near = p .near }
+
+  here : (s : ℕ) → s / z ≡ b → Near t (s % z) ⊎ Near u (s % z) → Pairs edges (i + 1) z t u s
+  here s p n = record { of = record { index = i; inside = omega arith; is = sym p }; near = n }
+
+  old : (s : ℕ) → Half s → Pairs edges (i + 1) z t u s
+  old s (inl p) = wider s p
+  old s (inr q) = let e = in-block z b t t-fits s (q .0) (q .1) in here s (e .0) (inl (e .1))
+
+  new : (j : ℕ) → j < 4 → Pairs edges (i + 1) z t u (b * z + u + j)
+  new j h = let e = in-block z b u u-fits (b * z + u + j) (omega arith) (omega arith) in here _ (e .0) (inr (e .1))
+
+  back : (s : ℕ) → Pairs edges (i + 1) z t u s → Half s ⊎ Among (b * z + u) 4 s
+  back s p = by (ℕ-discrete (p .of .index) i) (p .near)
+    where
+      by : Dec (p .of .index ≡ i) → Near t (s % z) ⊎ Near u (s % z) → Half s ⊎ Among (b * z + u) 4 s
+      by (yes e) (inl n) = inl (inr (of-block z b t t-fits s (sym (p .of .is) ∙ ap (λ (x : ℕ). getD edges x 0) e) n))
+      by (yes e) (inr n) = inr (of-block z b u u-fits s (sym (p .of .is) ∙ ap (λ (x : ℕ). getD edges x 0) e) n)
+      by (no e) n =
+          inl (inl (record { of = record { index = p .of .index; inside = omega (arith, p .of .inside); is = p .of .is }; near = n }))
+
+  -- its two stores
+  pub edge-sent : (to : ℕ) (f g h : ℕ → Float) (w₀ w w′ w″ : List Float) → Written nan to (Pairs edges i z t u) f w₀ w
+      → Ran (to + (b * z + t)) 4 g w w′ → Ran (to + (b * z + u)) 4 h w′ w″ → ((j : ℕ) → j < 4 → g j ≡ f (b * z + t + j))
+      → ((j : ℕ) → j < 4 → h j ≡ f (b * z + u + j)) → Written nan to (Pairs edges (i + 1) z t u) f w₀ w″
+  edge-sent to f g h w₀ w w′ w″ W U X e k =
+      run-more (b * z + u) 4
+      (run-more {Q = Half} (b * z + t) 4 W U e (λ s p. inl p) (λ j l. inr (omega arith, omega arith)) (λ s q. q))
+      X k old new back
+
+-- one pair of blocks more, at `at` and `next`, after the offsets below t
+module _ (from to z : ℕ) (edges : List ℕ) (factor : Float) (lift : 0 < z) (within : Within z from to edges) (t at next : ℕ) (w₀ w w′ : List Float) where
+  abbrev f : ℕ → Float
+  f = answer factor z edges (reading w₀ from)
+
+  pub pair-more : Written nan to (Upto (Of edges (length edges) z) (λ s. s % z) t) f w₀ w
+      → Written nan to (Pairs edges (length edges) z at next) (answer factor z edges (reading w from)) w w′
+      → at ≤ t → at ≤ next → next ≤ at + 4 → t ≤ next + 4
+      → Written nan to (Upto (Of edges (length edges) z) (λ s. s % z) (next + 4)) f w₀ w′
+  pair-more W U a b c d =
+      after W U
+      (λ s p. record { among = p .among; below = omega (arith, p .below) })
+      (λ s q. record { among = q .of; below = below s (q .near) })
+      (λ s r. split s r (decLt (s % z) at) (decLt (s % z) (at + 4)) (decLt (s % z) next))
+      (λ s q. answer-agrees z edges (reading w₀ from) (reading w from) (λ i h k l. low W _ (omega (arith, within i h))) factor lift s (own s (q .of)))
+    where
+      below : (s : ℕ) → Near at (s % z) ⊎ Near next (s % z) → s % z < next + 4
+      below s (inl n) = omega (arith, n .to)
+      below s (inr n) = n .to
+
+      own : (s : ℕ) → Of edges (length edges) z s → getD w (from + s) nan ≡ getD w₀ (from + s) nan
+      own s q =
+          let e : s ≡ getD edges (q .index) 0 * z + s % z = slot-is s z _ _ (sym (q .is)) refl in
+          low W _ (omega (arith, within (q .index) (q .inside), mod-lt s lift))
+
+      split : (s : ℕ) → Upto (Of edges (length edges) z) (λ s. s % z) (next + 4) s → Dec (s % z < at) → Dec (s % z < at + 4) → Dec (s % z < next)
+          → (Upto (Of edges (length edges) z) (λ s. s % z) t s × (Pairs edges (length edges) z at next s → ⊥))
+          ⊎ Pairs edges (length edges) z at next s
+      split s r (yes p) q x = inl (record { among = r .among; below = omega arith }, λ k. under s p (k .near))
+        where
+          under : (s : ℕ) → s % z < at → Near at (s % z) ⊎ Near next (s % z) → ⊥
+          under s p (inl n) = omega (arith, n .from)
+          under s p (inr n) = omega (arith, n .from)
+      split s r (no p) (yes q) x = inr (record { of = r .among; near = inl (record { from = omega arith; to = q }) })
+      split s r (no p) (no q) (no x) = inr (record { of = r .among; near = inr (record { from = omega arith; to = r .below }) })
+      split s r (no p) (no q) (yes x) = absurd (omega arith)

@@ -1,0 +1,81 @@
+-- `store` meets its contract. Assumes nothing.
+use native.Mathlib.Omega.{arith}
+use lib.Ieee.{nan}
+use lib.ListN.{getD, length-set}
+use Rattle.checks.proofs.Four.{four-stored}
+use borrow.Author.Needs.{needs}
+use Rattle.checks.proofs.blocks.store.Statement.{statement}
+use Rattle.checks.proofs.blocks.store.Tie as tie
+
+array-read-work : tie.Need-array-read-work
+array-read-work c = search needs
+
+mul-work : tie.Need-mul-work
+mul-work c = search needs
+
+slice-write-work : tie.Need-slice-write-work
+slice-write-work c = search needs
+
+array-read-work-2 : tie.Need-array-read-work-2
+array-read-work-2 c = search needs
+
+add-work : tie.Need-add-work
+add-work c = search needs
+
+mul-work-2 : tie.Need-mul-work-2
+mul-work-2 c = search needs
+
+slice-write-work-2 : tie.Need-slice-write-work-2
+slice-write-work-2 c = simp length-set (omega arith)
+
+array-read-work-3 : tie.Need-array-read-work-3
+array-read-work-3 c = search needs
+
+add-work-2 : tie.Need-add-work-2
+add-work-2 c = search needs
+
+mul-work-3 : tie.Need-mul-work-3
+mul-work-3 c = search needs
+
+slice-write-work-3 : tie.Need-slice-write-work-3
+slice-write-work-3 c = simp length-set (omega arith)
+
+array-read-work-4 : tie.Need-array-read-work-4
+array-read-work-4 c = search needs
+
+add-work-3 : tie.Need-add-work-3
+add-work-3 c = search needs
+
+mul-work-4 : tie.Need-mul-work-4
+mul-work-4 c = search needs
+
+slice-write-work-4 : tie.Need-slice-write-work-4
+slice-write-work-4 c = simp length-set (omega arith)
+
+same-length : tie.Need-same-length
+same-length c = search needs
+
+returns : tie.Need-returns
+returns c = four-stored (c .args .work .now) (c .args .at) (λ j. getD (c .args .t3) j nan) (c .pre)
+
+pub store-spec : {M : Type 1} → statement M
+store-spec =
+    tie.close
+    (tie.spec
+    array-read-work
+    mul-work
+    slice-write-work
+    array-read-work-2
+    add-work
+    mul-work-2
+    slice-write-work-2
+    array-read-work-3
+    add-work-2
+    mul-work-3
+    slice-write-work-3
+    array-read-work-4
+    add-work-3
+    mul-work-4
+    slice-write-work-4
+    same-length
+    returns)

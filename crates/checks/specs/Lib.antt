@@ -1,0 +1,2 @@
+-- The terms of the check pass. Assumes nothing.
+pub mod Row

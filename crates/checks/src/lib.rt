@@ -1,0 +1,10 @@
+// The check pass of a base row: what each of its checks sends to its bits. Where a row has 4 checks or more they are done in
+// blocks of 4, two blocks at a time. What these functions require, their callers in this crate and minsum meet.
+mod blocks;
+mod pairs;
+mod row;
+mod single;
+mod slots;
+
+pub use row::check_row;
+pub use slots::slot;

@@ -1,0 +1,2 @@
+-- The laws of the check rule. Assumes nothing.
+pub mod Ordered
