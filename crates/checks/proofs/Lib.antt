@@ -1,3 +1,4 @@
 -- The laws of the check pass. Assumes nothing.
 pub mod Four
 pub mod Sent
+pub mod Smallest

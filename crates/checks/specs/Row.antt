@@ -1,10 +1,11 @@
 -- What the loops over the base edges of a row read and write. Assumes nothing.
 use mathlib.Core.Path.{_≡_}
-use mathlib.Core.Bool.{false}
+use mathlib.Core.Bool.{false, cond}
 use mathlib.Core.List.{List}
 use Prim.Native.Nat.{ℕ, _+_, _*_, _/_, _%_, _<_, _≤_}
 use lib.ListN.{length, getD}
-use lib.Ieee.{Float, nan}
+use lib.Ieee.{Float, nan, mul, binary32}
+use Rattle.laws.specs.Floats.{negative}
 use mathlib.Core.Logic.{_⊎_}
 use Rattle.laws.specs.Written.{Written, At, tabulate}
 use Rattle.rule.specs.declared.Least.{Least}
@@ -50,3 +51,7 @@ pub record Near (t x : ℕ) : Type 0 where
 pub record Pairs (l : List ℕ) (n z t u s : ℕ) : Type 0 where
   pub of : Of l n z s
   pub near : Near t (s % z) ⊎ Near u (s % z)
+
+-- a magnitude, weighed by the sign of the message m s
+unfoldable pub weighed : Float → Float → Float → (ℕ → Float) → ℕ → Float
+weighed below other magnitude m s = mul binary32 (cond (negative (m s)) below other) magnitude

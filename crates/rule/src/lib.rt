@@ -2,8 +2,8 @@
 // a maximum or a select, so that no branch hangs on the readings. `with` requires an ordered record, which `new` gives and
 // `with` keeps. Assumes nothing.
 ghost use mathlib.Core.Path.{_≡_};
-ghost use mathlib.Core.Bool.{cond, xor};
-ghost use lib.Ieee.{lt};
+ghost use mathlib.Core.Bool.{false, cond, xor};
+ghost use lib.Ieee.{binary32, inf, lt, mul};
 ghost use Rattle.laws.specs.Floats;
 ghost use Rattle.rule.specs.Rule.{Ordered, started, taken, answered};
 
@@ -96,6 +96,20 @@ impl Least {
             argmin: select_place(a < self.min1, place, self.argmin),
             sign: flipped(self.sign, m),
         }
+    }
+
+    // The factor with the sign that goes to a place whose message is negative, or is not.
+    pub fn weight(self, factor: f32, negative: bool) -> f32
+        ensures { λ r. ⌜ r ≡ mul binary32 factor (Floats.signed (xor (self .sign) negative)) ⌝ }
+    {
+        factor * signed(self.sign != negative)
+    }
+
+    // Whether the smallest magnitude is below infinity: then argmin is the place of a message.
+    pub fn found(self) -> bool
+        ensures { λ r. ⌜ r ≡ lt (self .«min1») (inf false) ⌝ }
+    {
+        self.min1 < 1.0f32 / 0.0f32
     }
 
     // The message to the place that sent m.

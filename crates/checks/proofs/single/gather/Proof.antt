@@ -79,9 +79,11 @@ loop-again c =
 returns : tie.Need-returns Inv-loop μ-loop
 returns c =
     let start = c .before .before .before .before .before in
-    c .before .loop .inv .1
-    ∙ ap (gathered (reading (start .args .work .now) (start .args .from)) (start .args .z) (start .args .t))
-    (take-all (c .before .loop .i) (start .args .edges .now) (omega (arith, c .loop-test .left)))
+    let inv = c .before .loop .inv in (
+      inv .1 ∙ ap (gathered (reading (start .args .work .now) (start .args .from)) (start .args .z) (start .args .t))
+          (take-all (c .before .loop .i) (start .args .edges .now) (omega (arith, c .loop-test .left))),
+      inv .2,
+    )
 
 pub gather-spec : {M : Type 1} → statement M
 gather-spec =
