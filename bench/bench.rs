@@ -39,6 +39,9 @@ const GRAPHS: [(usize, usize); 8] = [
 
 const LIMIT: u16 = 10;
 const SAMPLES: usize = 15;
+/// How many bits the blocks of a code have together, so that short codes have many: noise does not repeat in the field, and few
+/// blocks, timed again and again, are learnt by the processor's branch predictor.
+const BITS: usize = 40_000;
 /// How many draws a block has to take the whole limit, before the slowest of them is taken.
 const DRAWS: usize = 200;
 
@@ -96,7 +99,7 @@ impl Blocks {
             rx: Vec::new(),
             iterations: 0,
         };
-        for i in 0..if n_tx > 10_000 { 2 } else { 16 } {
+        for i in 0..BITS / n_tx {
             blocks.draw(Random::new(seed_of(143, &[rate, n_tx, i])));
         }
         blocks

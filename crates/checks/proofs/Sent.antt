@@ -9,7 +9,7 @@ use native.Mathlib.Omega.{arith}
 use lib.ListN.{length, getD}
 use lib.Ieee.{Float, nan}
 use Rattle.laws.specs.Written.{Written, tabulate}
-use Rattle.laws.proofs.Written.{Upto, after, low, getD-tabulate}
+use Rattle.laws.proofs.Written.{Upto, Among, run-more, after, low, getD-tabulate}
 use Rattle.laws.proofs.Slots.{slot-div, slot-mod, slot-is}
 use Rattle.rule.specs.declared.Least.{Least}
 use Rattle.rule.specs.Rule.{answered}
@@ -17,33 +17,6 @@ use Rattle.messages.specs.Memory.{reading}
 use Rattle.messages.specs.Iteration.{gathered, answer}
 use Rattle.messages.proofs.Local.{answer-agrees}
 use Rattle.checks.specs.Row.{Ran, Of, Within, Near, Pairs, past, gatheredFour}
-
--- slot s is one of the n from k on
-abbrev Among : ℕ → ℕ → ℕ → Type 0
-Among k n s = (k ≤ s) × (s < k + n)
-
--- a run of n places more, from slot k on, that says there what f says
-module _ {A : Type 0} {d : A} {base : ℕ} {P Q : ℕ → Type 0} {f g : ℕ → A} {w w′ w″ : List A} (k n : ℕ) where
-  pub run-more : Written d base P f w w′ → Written d (base + k) (λ j. j < n) g w′ w″ → ((j : ℕ) → j < n → g j ≡ f (k + j))
-      → ((s : ℕ) → P s → Q s) → ((j : ℕ) → j < n → Q (k + j)) → ((s : ℕ) → Q s → P s ⊎ Among k n s) → Written d base Q f w w″
-  run-more W U e old new back =
-      record {
-        long = U .long ∙ W .long;
-        at = λ s q. at-slot s q (decLt s k) (decLt s (k + n));
-        off = λ i h. U .off i (λ j l r. h (k + j) (new j l) (omega arith)) ∙ W .off i (λ s p. h s (old s p));
-      }
-    where
-      outside : (s : ℕ) → (Among k n s → ⊥) → P s ⊎ Among k n s → getD w″ (base + s) d ≡ f s
-      outside s n (inl p) = U .off (base + s) (λ j l r. n (omega arith, omega arith)) ∙ W .at s p
-      outside s n (inr q) = absurd (n q)
-
-      at-slot : (s : ℕ) → Q s → Dec (s < k) → Dec (s < k + n) → getD w″ (base + s) d ≡ f s
-      at-slot s q (yes a) b = outside s (λ r. omega (arith, r .0)) (back s q)
-      at-slot s q (no a) (no b) = outside s (λ r. b (r .1)) (back s q)
-      at-slot s q (no a) (yes b) =
-          let r : base + k + (s - k) ≡ base + s = omega arith in
-          let r′ : k + (s - k) ≡ s = omega arith in
-          subst (λ (x : ℕ). getD w″ x d ≡ f s) r (U .at (s - k) (omega arith) ∙ e (s - k) (omega arith) ∙ ap f r′)
 
 -- what a block of messages holds
 pub block-sent : (factor : Float) (z t : ℕ) (edges : List ℕ) (m : ℕ → Float) (b place : ℕ) (l : List Least) (x v : List Float) → t + 4 ≤ z

@@ -16,26 +16,12 @@ use Rattle.laws.specs.Floats.{negative, magnitude, signed}
 use Rattle.laws.specs.Written.{Written}
 use Rattle.laws.proofs.Folded.{folded-more}
 use Rattle.laws.proofs.Slots.{slot-div, slot-mod, slot-is}
-use Rattle.laws.proofs.Written.{same}
+use Rattle.laws.proofs.Written.{same, overwrite}
 use Rattle.rule.specs.declared.Least.{Least}
 use Rattle.rule.specs.Rule.{started, taken, answered, Ordered}
 use Rattle.rule.proofs.Ordered.{unbounded}
 use Rattle.messages.specs.Iteration.{gathered, answer}
 use Rattle.checks.specs.Row.{Of, Check, Within, weighed}
-
--- one place written over
-pub overwrite : {A : Type 0} {d : A} {base : ℕ} {P : ℕ → Type 0} {f g : ℕ → A} {w w′ : List A} (k : ℕ) (v : A) → Written d base P f w w′
-    → base + k < length w → P k → v ≡ g k → ((s : ℕ) → P s → (s ≡ k → ⊥) → f s ≡ g s) → Written d base P g w (set w′ (base + k) v)
-overwrite {A} {d} {base} {P} {f} {g} {w} {w′} k v W inside here e rest =
-    record {
-      long = length-set w′ (base + k) v ∙ W .long;
-      at = λ s p. at-place s p (ℕ-discrete s k);
-      off = λ i h. getD-set-other w′ (base + k) i v d (λ q. h k here q) ∙ W .off i h;
-    }
-  where
-    at-place : (s : ℕ) → P s → Dec (s ≡ k) → getD (set w′ (base + k) v) (base + s) d ≡ g s
-    at-place s p (yes q) = rw q (getD-set-same w′ (base + k) v d (omega (arith, W .long)) ∙ e)
-    at-place s p (no n) = getD-set-other w′ (base + k) (base + s) v d (λ q. n (omega arith)) ∙ W .at s p ∙ rest s p n
 
 -- the place of a smallest magnitude that is below infinity is one of the base edges
 record Place (edges : List ℕ) (n place : ℕ) : Type 0 where

@@ -1,4 +1,5 @@
--- The laws of `Written`: with no place written; one place more; one run of writes after another; and the whole as a list. Assumes nothing.
+-- The laws of `Written`: with no place written; one place or one run more; one run of writes after another; a place written over; and the
+-- whole as a list. Assumes nothing.
 use mathlib.Core.Path.{_≡_, refl, sym, ap, ap₂, _∙_, subst}
 use mathlib.Core.Logic.{_⊎_, inl, inr, ⊎-elim}
 use mathlib.Core.List.{List, _∷_, _++_, append-nil}
@@ -99,6 +100,47 @@ module _ {A : Type 0} {d : A} {base : ℕ} where
       at-slot s t l q =
           let r : base + b * z + t ≡ base + s = omega arith in
           subst (λ (x : ℕ). getD w′ x d ≡ h s) r (W .at t l ∙ e t l ∙ ap h (sym q))
+
+-- slot s is one of the n from k on
+abbrev pub Among : ℕ → ℕ → ℕ → Type 0
+Among k n s = (k ≤ s) × (s < k + n)
+
+-- a run of n places more, from slot k on, that says there what f says
+module _ {A : Type 0} {d : A} {base : ℕ} {P Q : ℕ → Type 0} {f g : ℕ → A} {w w′ w″ : List A} (k n : ℕ) where
+  pub run-more : Written d base P f w w′ → Written d (base + k) (λ j. j < n) g w′ w″ → ((j : ℕ) → j < n → g j ≡ f (k + j))
+      → ((s : ℕ) → P s → Q s) → ((j : ℕ) → j < n → Q (k + j)) → ((s : ℕ) → Q s → P s ⊎ Among k n s) → Written d base Q f w w″
+  run-more W U e old new back =
+      record {
+        long = U .long ∙ W .long;
+        at = λ s q. at-slot s q (decLt s k) (decLt s (k + n));
+        off = λ i h. U .off i (λ j l r. h (k + j) (new j l) (omega arith)) ∙ W .off i (λ s p. h s (old s p));
+      }
+    where
+      outside : (s : ℕ) → (Among k n s → ⊥) → P s ⊎ Among k n s → getD w″ (base + s) d ≡ f s
+      outside s n (inl p) = U .off (base + s) (λ j l r. n (omega arith, omega arith)) ∙ W .at s p
+      outside s n (inr q) = absurd (n q)
+
+      at-slot : (s : ℕ) → Q s → Dec (s < k) → Dec (s < k + n) → getD w″ (base + s) d ≡ f s
+      at-slot s q (yes a) b = outside s (λ r. omega (arith, r .0)) (back s q)
+      at-slot s q (no a) (no b) = outside s (λ r. b (r .1)) (back s q)
+      at-slot s q (no a) (yes b) =
+          let r : base + k + (s - k) ≡ base + s = omega arith in
+          let r′ : k + (s - k) ≡ s = omega arith in
+          subst (λ (x : ℕ). getD w″ x d ≡ f s) r (U .at (s - k) (omega arith) ∙ e (s - k) (omega arith) ∙ ap f r′)
+
+-- one place written over
+pub overwrite : {A : Type 0} {d : A} {base : ℕ} {P : ℕ → Type 0} {f g : ℕ → A} {w w′ : List A} (k : ℕ) (v : A) → Written d base P f w w′
+    → base + k < length w → P k → v ≡ g k → ((s : ℕ) → P s → (s ≡ k → ⊥) → f s ≡ g s) → Written d base P g w (set w′ (base + k) v)
+overwrite {A} {d} {base} {P} {f} {g} {w} {w′} k v W inside here e rest =
+    record {
+      long = length-set w′ (base + k) v ∙ W .long;
+      at = λ s p. at-place s p (ℕ-discrete s k);
+      off = λ i h. getD-set-other w′ (base + k) i v d (λ q. h k here q) ∙ W .off i h;
+    }
+  where
+    at-place : (s : ℕ) → P s → Dec (s ≡ k) → getD (set w′ (base + k) v) (base + s) d ≡ g s
+    at-place s p (yes q) = rw q (getD-set-same w′ (base + k) v d (omega (arith, W .long)) ∙ e)
+    at-place s p (no n) = getD-set-other w′ (base + k) (base + s) v d (λ q. n (omega arith)) ∙ W .at s p ∙ rest s p n
 
 -- A loop that goes by a key of the slots: before the turn k the slots with P whose key is below k are written.
 pub record Upto (P : ℕ → Type 0) (key : ℕ → ℕ) (k s : ℕ) : Type 0 where
