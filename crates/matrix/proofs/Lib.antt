@@ -4,4 +4,5 @@ pub mod Codeword
 pub mod Words
 pub mod Simple
 pub mod ByRow
+pub mod ByColumn
 pub mod Members

@@ -1,9 +1,10 @@
 -- The base edges of a graph, by their numbers: 01, "Base edges". Assumes nothing.
+use mathlib.Core.Path.{_≡_}
 use mathlib.Core.Bool.{cond}
 use mathlib.Core.List.{List, [], _++_}
-use Prim.Native.Nat.{ℕ, zero, suc, _+_, _*_, _/_, _%_, _-_}
+use Prim.Native.Nat.{ℕ, zero, suc, _+_, _*_, _/_, _%_, _-_, _<_}
 use lib.Dec.{ltb, eqb}
-use lib.ListN.{getD}
+use lib.ListN.{length, getD}
 use Rattle.laws.specs.Range.{collect}
 use Rattle.laws.specs.Columns.{parityRow}
 use Rattle.tables.specs.declared.BaseGraph.{BaseGraph}
@@ -34,6 +35,13 @@ rowEdges g r = collect (λ b. eqb (edgeRow g b) r) (λ b. b) (edges g)
 unfoldable pub edgesByRow : BaseGraph → ℕ → List ℕ
 edgesByRow g zero = []
 edgesByRow g (suc n) = edgesByRow g n ++ rowEdges g n
+
+-- l lists the base edges of column v, in rising row
+pub record ColumnList (g : BaseGraph) (v : ℕ) (l : List ℕ) : Type 0 where
+  pub edge-lt : (i : ℕ) → i < length l → getD l i 0 < edges g
+  pub column : (i : ℕ) → i < length l → edgeColumn g (getD l i 0) ≡ v
+  pub rising : (i : ℕ) → i + 1 < length l → edgeRow g (getD l i 0) < edgeRow g (getD l (i + 1) 0)
+  pub all : (b : ℕ) → b < edges g → edgeColumn g b ≡ v → (i : ℕ) × (i < length l) × (getD l i 0 ≡ b)
 
 -- 01, "Work memory": the slot, b * z + t, at which base edge b joins bit v of its column; t turned by the shift is v's offset
 unfoldable pub slotOf : BaseGraph → ℕ → ℕ → ℕ → ℕ
