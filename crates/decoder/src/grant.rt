@@ -8,7 +8,7 @@ ghost use mathlib.Core.Path.{_≡_};
 ghost use mathlib.Core.Bool.{false};
 ghost use Prim.Native.Nat.{_+_, _≤_};
 ghost use lib.ListN.{length};
-ghost use Rattle.minsum.specs.Lent.{Ready, Rows, Edges};
+ghost use Rattle.minsum.specs.Lent.{Ready, Rows, Edges, Sorted};
 ghost use Rattle.decoder.specs.Calls.{toldDecode, grantTold, grantWritten};
 ghost use Rattle.decoder.specs.Runs.{Reached};
 
@@ -21,9 +21,10 @@ fn iterations(
     start: &[u8],
     column: &[u8],
     turn: &[u16],
+    sorted: &[u8],
     work: &mut [f32],
 ) -> Decode
-    requires { ⌜ Ready (d .code) s (length (now work)) × Rows (d .code) (now order) (now start) × Edges (d .code) (now column) (now turn) ⌝ }
+    requires { ⌜ Ready (d .code) s (length (now work)) × Rows (d .code) (now order) (now start) × Edges (d .code) (now column) (now turn) × Sorted (d .code) (now sorted) ⌝ }
     requires { ⌜ (d .converged ≡ false) × (d .iterations + g ≤ 65535) ⌝ }
     ensures { λ r. ⌜ Reached d g (now (work .entry)) r (now (work .exit)) ⌝ }
 {
@@ -31,7 +32,7 @@ fn iterations(
     let done = d.iterations;
     let mut i: u16 = 0;
     while i < g {
-        minsum::iterate(c, s, order, start, column, turn, Code::ALPHA, work);
+        minsum::iterate(c, s, order, start, column, turn, sorted, Code::ALPHA, work);
         i += 1;
         if minsum::converged(c, s, order, start, column, turn, work) {
             return Decode {
@@ -61,7 +62,8 @@ pub fn go_on(d: Decode, s: Sizes, g: u16, work: &mut [f32]) -> Decode
     let start = l.start;
     let column = l.column;
     let turn = l.turn;
-    iterations(d, s, g, &order, &start, &column, &turn, work)
+    let sorted = l.sorted;
+    iterations(d, s, g, &order, &start, &column, &turn, &sorted, work)
 }
 
 impl Decode {

@@ -1,5 +1,8 @@
--- The lists of a call: what stands where, and the laws of the sort by counting. Assumes nothing.
+-- The lists of a call: what stands where, the laws of the sort by counting, and those of the order in a column. Assumes nothing.
 pub mod Filled
 pub mod Tally
 pub mod Placing
 pub mod Sorted
+pub mod InRank
+pub mod Sorting
+pub mod ColumnSorted

@@ -1,3 +1,4 @@
--- The lists of a call, and the sort by counting that makes one. Assumes nothing.
+-- The lists of a call, the sort by counting that makes one, and the order in a column. Assumes nothing.
 pub mod Lists
 pub mod Placing
+pub mod Sorting

@@ -2,3 +2,4 @@
 pub mod Turned
 pub mod Turns
 pub mod Lent
+pub mod ByColumns

@@ -1,3 +1,4 @@
 -- The terms of the passes. Assumes nothing.
 pub mod Runs
 pub mod Lent
+pub mod Columns

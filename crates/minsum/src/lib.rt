@@ -2,6 +2,7 @@
 // What these functions require, their callers in this and the decoder's crate meet.
 mod passes;
 mod runs;
+mod short;
 mod sizes;
 mod slots;
 

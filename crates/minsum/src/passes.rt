@@ -4,6 +4,7 @@ use crate::runs::copy_run;
 use crate::runs::copy_turned;
 use crate::runs::met_row;
 use crate::runs::subtract_turned;
+use crate::short::short_pass;
 use crate::sizes::Sizes;
 use ldpc::Code;
 ghost use mathlib.Core.Path.{_≡_};
@@ -14,7 +15,7 @@ ghost use Rattle.messages.specs.Iteration.{checkPass, totalPass, ofBit, spreadP
 ghost use Rattle.ldpc.specs.Code.{codeGraph};
 ghost use Rattle.lists.specs.Lists.{orderOf};
 ghost use Rattle.minsum.specs.Runs.{RowDone, EdgeDone, EdgeAdded, Summed, rowMet};
-ghost use Rattle.minsum.specs.Lent.{Ready, Rows, Edges};
+ghost use Rattle.minsum.specs.Lent.{Ready, Rows, Edges, Sorted};
 
 // The checks of base row r.
 fn row_pass(c: Code, s: Sizes, order: &[u8], start: &[u8], r: usize, factor: f32, work: &mut [f32])
@@ -116,6 +117,27 @@ fn send_pass(c: Code, s: Sizes, column: &[u8], turn: &[u16], work: &mut [f32])
     }
 }
 
+// The totals, and what every bit sends to its checks. Below a lift of 32 a column at a time is faster than runs of numbers.
+fn bit_pass(
+    c: Code,
+    s: Sizes,
+    order: &[u8],
+    column: &[u8],
+    turn: &[u16],
+    sorted: &[u8],
+    work: &mut [f32],
+)
+    requires { ⌜ Ready c s (length (now work)) × (now order ≡ orderOf (codeGraph c)) × Edges c (now column) (now turn) × Sorted c (now sorted) ⌝ }
+    ensures { λ _. ⌜ now (work .exit) ≡ sendPass (codeGraph c) (c .z) (totalPass (codeGraph c) (c .z) (now (work .entry))) ⌝ }
+{
+    if c.z < 32 {
+        short_pass(c, s, sorted, turn, work);
+    } else {
+        total_pass(c, s, order, column, turn, work);
+        send_pass(c, s, column, turn, work);
+    }
+}
+
 // One iteration.
 pub fn iterate(
     c: Code,
@@ -124,15 +146,15 @@ pub fn iterate(
     start: &[u8],
     column: &[u8],
     turn: &[u16],
+    sorted: &[u8],
     factor: f32,
     work: &mut [f32],
 )
-    requires { ⌜ Ready c s (length (now work)) × Rows c (now order) (now start) × Edges c (now column) (now turn) ⌝ }
+    requires { ⌜ Ready c s (length (now work)) × Rows c (now order) (now start) × Edges c (now column) (now turn) × Sorted c (now sorted) ⌝ }
     ensures { λ _. ⌜ now (work .exit) ≡ iteration factor (codeGraph c) (c .z) (now (work .entry)) ⌝ }
 {
     check_pass(c, s, order, start, factor, work);
-    total_pass(c, s, order, column, turn, work);
-    send_pass(c, s, column, turn, work);
+    bit_pass(c, s, order, column, turn, sorted, work);
 }
 
 // Whether the decisions meet every check of base row r.

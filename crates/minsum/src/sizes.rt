@@ -5,9 +5,10 @@ ghost use mathlib.Core.Bool.{true};
 ghost use Rattle.ldpc.specs.Choice.{made};
 ghost use Rattle.minsum.specs.Lent.{sizesOf};
 
-// Base rows, base edges, the bits of a lifted word (N) and the slots of its edges (E).
+// Base rows, information columns (k_b), base edges, the bits of a lifted word (N) and the slots of its edges (E).
 pub struct Sizes {
     pub rows: usize,
+    pub info: usize,
     pub edges: usize,
     pub bits: usize,
     pub slots: usize,
@@ -21,6 +22,7 @@ pub fn sizes_of(c: Code) -> Sizes
     let edges = 3 * s.k_b + 2 * s.m_b + 1;
     Sizes {
         rows: s.m_b,
+        info: s.k_b,
         edges: edges,
         bits: s.n_b * c.z,
         slots: edges * c.z,

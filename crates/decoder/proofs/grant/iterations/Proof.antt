@@ -12,37 +12,37 @@ use Rattle.decoder.proofs.grant.iterations.Tie as tie
 use Rattle.decoder.proofs.grant.iterations.Statement.{statement}
 
 abbrev Inv-loop : tie.InvT-loop
-Inv-loop s g order start column turn work₀ c done i₀ work i = (i ≤ g) × (length work ≡ length work₀) × (iterated alpha c i (so-far work₀ done false) ≡ so-far work (done + i) false)
+Inv-loop s g order start column turn sorted work₀ c done i₀ work i = (i ≤ g) × (length work ≡ length work₀) × (iterated alpha c i (so-far work₀ done false) ≡ so-far work (done + i) false)
 
 abbrev μ-loop : tie.MeasureT-loop
-μ-loop s g order start column turn work₀ c done i₀ work i = g - i
+μ-loop s g order start column turn sorted work₀ c done i₀ work i = g - i
 
 loop-holds : tie.Need-loop-holds Inv-loop μ-loop
-loop-holds c = (omega arith, refl, none-done alpha (c .before .before .before .before .before .before .args .d .code) (c .before .before .before .before .before .before .args .work .now) (c .before .before .before .before .before .before .args .d .iterations))
+loop-holds c = (omega arith, refl, none-done alpha (c .before .before .before .before .before .before .before .args .d .code) (c .before .before .before .before .before .before .before .args .work .now) (c .before .before .before .before .before .before .before .args .d .iterations))
 
 iterate-requires : tie.Need-iterate-requires Inv-loop μ-loop
 iterate-requires c κs =
-    let start = c .before .before .before .before .before .before .before .before .before in
-    (ready-still (start .pre .0 .0) (c .before .before .loop .inv .1), start .pre .0 .1, start .pre .0 .2)
+    let start = c .before .before .before .before .before .before .before .before .before .before in
+    (ready-still (start .pre .0 .0) (c .before .before .loop .inv .1), start .pre .0 .1, start .pre .0 .2, start .pre .0 .3)
 
 add-i : tie.Need-add-i Inv-loop μ-loop
 add-i c = omega (arith, c .before .before .before .before .loop-test .taken)
 
 converged-requires : tie.Need-converged-requires Inv-loop μ-loop
 converged-requires c κs =
-    let start = c .before .before .before .before .before .before .before .before .before .before .before .before .before in
-    (ready-still (start .pre .0 .0) (c .before .before .before .iterate .kept .1 .1 .1 .1 .1 .1 .1 .0 ∙ c .before .before .before .before .before .before .loop .inv .1), start .pre .0 .1, start .pre .0 .2)
+    let start = c .before .before .before .before .before .before .before .before .before .before .before .before .before .before in
+    (ready-still (start .pre .0 .0) (c .before .before .before .iterate .kept .1 .1 .1 .1 .1 .1 .1 .1 .0 ∙ c .before .before .before .before .before .before .loop .inv .1), start .pre .0 .1, start .pre .0 .2)
 
-add-t19 : tie.Need-add-t19 Inv-loop μ-loop
-add-t19 c = omega (arith, c .before .before .before .before .before .before .before .loop-test .taken, c .before .before .before .before .before .before .before .before .before .before .before .before .before .before .before .pre .1 .1)
+add-t20 : tie.Need-add-t20 Inv-loop μ-loop
+add-t20 c = omega (arith, c .before .before .before .before .before .before .before .loop-test .taken, c .before .before .before .before .before .before .before .before .before .before .before .before .before .before .before .before .pre .1 .1)
 
 same-length : tie.Need-same-length Inv-loop μ-loop
-same-length c = c .before .before .before .before .before .iterate .kept .1 .1 .1 .1 .1 .1 .1 .0 ∙ c .before .before .before .before .before .before .before .before .loop .inv .1
+same-length c = c .before .before .before .before .before .iterate .kept .1 .1 .1 .1 .1 .1 .1 .1 .0 ∙ c .before .before .before .before .before .before .before .before .loop .inv .1
 
 returns : tie.Need-returns Inv-loop μ-loop
 unfolding Ieee.ofBits
 returns c =
-    let start = c .before .before .before .before .before .before .before .before .before .before .before .before .before .before .before in
+    let start = c .before .before .before .before .before .before .before .before .before .before .before .before .before .before .before .before in
     let at-loop = c .before .before .before .before .before .before .before .before in
     let d = start .args .d in
     let i = at-loop .loop .i in
@@ -58,24 +58,24 @@ loop-less c = omega (arith, c .before .before .before .before .before .before .b
 loop-again : tie.Need-loop-again Inv-loop μ-loop
 unfolding Ieee.ofBits
 loop-again c =
-    let start = c .before .before .before .before .before .before .before .before .before .before .before .before .before .before .before in
+    let start = c .before .before .before .before .before .before .before .before .before .before .before .before .before .before .before .before in
     let at-loop = c .before .before .before .before .before .before .before .before in
     let d = start .args .d in
     let i = at-loop .loop .i in
     let h = c .before .before .before .before .before .before .before .loop-test .taken in
     let e = step alpha (d .code) (start .args .work .now) (d .iterations) i (at-loop .loop .work) _ false (at-loop .loop .inv .2)
     (c .before .before .before .before .before .iterate .ensures) (sym (c .if1 .left) ∙ c .before .converged .ensures) in
-    (omega (arith, h), c .before .before .before .before .before .iterate .kept .1 .1 .1 .1 .1 .1 .1 .0 ∙ at-loop .loop .inv .1, e)
+    (omega (arith, h), c .before .before .before .before .before .iterate .kept .1 .1 .1 .1 .1 .1 .1 .1 .0 ∙ at-loop .loop .inv .1, e)
 
-add-t20 : tie.Need-add-t20 Inv-loop μ-loop
-add-t20 c = omega (arith, c .before .before .before .before .before .before .before .before .pre .1 .1)
+add-t21 : tie.Need-add-t21 Inv-loop μ-loop
+add-t21 c = omega (arith, c .before .before .before .before .before .before .before .before .before .pre .1 .1)
 
 same-length-2 : tie.Need-same-length-2 Inv-loop μ-loop
 same-length-2 c = c .before .loop .inv .1
 
 returns-2 : tie.Need-returns-2 Inv-loop μ-loop
 returns-2 c =
-    let start = c .before .before .before .before .before .before .before .before in
+    let start = c .before .before .before .before .before .before .before .before .before in
     let d = start .args .d in
     let k : c .before .loop .i ≡ start .args .g = omega (arith, c .before .loop .inv .0, c .loop-test .left) in
     let e = subst (λ (n : ℕ). iterated alpha (d .code) n (so-far (start .args .work .now) (d .iterations) false) ≡ so-far (c .before .loop .work) (d .iterations + n) false)
@@ -92,11 +92,11 @@ iterations-spec =
     iterate-requires
     add-i
     converged-requires
-    add-t19
+    add-t20
     same-length
     returns
     loop-less
     loop-again
-    add-t20
+    add-t21
     same-length-2
     returns-2)
