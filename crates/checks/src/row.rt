@@ -15,7 +15,10 @@ pub fn check_row(work: &mut [f32], from: usize, to: usize, z: usize, edges: &[u8
     requires { ⌜ (0 < z) × (z ≤ 324) × Within z from to (now edges) × Within z to (length (now work)) (now edges) ⌝ }
     ensures { λ _. ⌜ Written nan to (Of (now (edges .entry)) (length (now (edges .entry))) z) (answer factor z (now (edges .entry)) (reading (now (work .entry)) from)) (now (work .entry)) (now (work .exit)) ⌝ }
 {
-    if z < 4 {
+    if z == 1 {
+        // By the constant: then no slot asks for a product.
+        single::row(work, from, to, 1, edges, factor);
+    } else if z < 4 {
         single::row(work, from, to, z, edges, factor);
     } else {
         pairs::row(work, from, to, z, edges, factor);

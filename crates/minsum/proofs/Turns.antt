@@ -1,7 +1,7 @@
 -- A turn of each pass, for a graph at lift z: a row of checks, the messages over one base edge. Assumes nothing.
 use mathlib.Core.Path.{_≡_, refl, sym, ap, ap₂, subst, _∙_}
 use mathlib.Core.Logic.{_⊎_, inl, inr}
-use mathlib.Core.Bool.{Bool, false, not, xor, cond}
+use mathlib.Core.Bool.{cond}
 use mathlib.Core.List.{List}
 use Prim.Native.Nat.{ℕ, _+_, _*_, _/_, _%_, _-_, _<_, _≤_}
 use native.Mathlib.Omega.{arith}
@@ -12,24 +12,21 @@ use lib.Dec.{eqb}
 use lib.ListN.{length, take, getD}
 use lib.Seq.{take-all}
 use lib.Ieee.{Float, nan, add, sub, binary32}
-use Rattle.laws.specs.Range.{every, folded, count}
-use Rattle.laws.specs.Floats.{negative}
-use Rattle.laws.proofs.Range.{every-ext, every-rows, count-nothing}
+use Rattle.laws.specs.Range.{folded, count}
 use Rattle.laws.specs.Written.{Written, At}
 use Rattle.laws.proofs.Slots.{slot-lt, slot-div, slot-mod, slot-is, edge-lt}
-use Rattle.laws.proofs.Folded.{folded-more, folded-ext, xorSum-folded}
+use Rattle.laws.proofs.Folded.{folded-more, folded-ext}
 use Rattle.laws.proofs.Written.{Upto, upto-run, upto-all, whole, same, widen, block, low, high}
 use Rattle.tables.specs.declared.BaseGraph.{BaseGraph}
 use Rattle.matrix.specs.Edges.{edges, edgeRow, edgeColumn, edgeShift, bitAt, rowEdges, edgesByRow, slotOf}
-use Rattle.matrix.specs.Checks.{rowSum, checkSum, unmet}
 use Rattle.matrix.proofs.Edges.{bit-lt}
 use Rattle.matrix.proofs.ByRow.{row-entry, row-rank, row-rank-lt, ofRow, by-row-most}
 use Rattle.matrix.proofs.Simple.{Simple}
 use Rattle.messages.specs.Memory.{bitsOf, slotsOf, toChecks, toBits, needed, reading}
-use Rattle.messages.specs.Iteration.{answer, toBit, checkPass, added, total, totalPass, ofBit, spreadPass, toCheck, sendPass, decision, settled}
+use Rattle.messages.specs.Iteration.{answer, toBit, checkPass, added, total, totalPass, ofBit, spreadPass, toCheck, sendPass}
 use Rattle.messages.proofs.Local.{answer-agrees}
 use Rattle.checks.specs.Row.{Of, Ran}
-use Rattle.minsum.specs.Runs.{RowDone, EdgeDone, EdgeAdded, Summed, oddOf, rowMet}
+use Rattle.minsum.specs.Runs.{RowDone, EdgeDone, EdgeAdded, Summed}
 
 module _ (g : BaseGraph) (z : ℕ) (lift : 0 < z) where
   -- the slots, and the row of one
@@ -245,33 +242,3 @@ module _ (g : BaseGraph) (z : ℕ) (lift : 0 < z) (simple : Simple g) (w : List 
             (λ i k y. added-agrees g z w w′ W v y (getD l i 0));
         off = λ i k. U .off i k ∙ W .off i k;
       })
-
--- the convergence test, row by row
-pub settled-rows : (g : BaseGraph) (z : ℕ) (w : List Float) → settled g z w ≡ every (rowMet g z w) (g .shape .«m_b»)
-unfolding settled unmet rowMet
-settled-rows g z w =
-    count-nothing (checkSum g z (decision g z w)) (g .shape .«m_b» * z)
-    ∙ every-rows (λ s. not (checkSum g z (decision g z w) s)) z (g .shape .«m_b»)
-
-row-sum : (g : BaseGraph) (z : ℕ) (x : ℕ → Bool) (r t : ℕ) → t < z → rowSum g z x (edges g) r t ≡ checkSum g z x (r * z + t)
-unfolding checkSum
-row-sum g z x r t h = rw (slot-div r z t h, slot-mod r z t h)
-
--- a row is met where its lists say so
-pub row-met : (g : BaseGraph) (z : ℕ) (w : List Float) (tot r : ℕ) (column turn l : List ℕ) → tot ≡ bitsOf g z → l ≡ rowEdges g r
-    → ((b : ℕ) → b < edges g → (getD column b 0 ≡ edgeColumn g b) × (getD turn b 0 ≡ edgeShift g b % z))
-    → every (λ t. not (oddOf w tot z t column turn l)) z ≡ rowMet g z w r
-unfolding rowMet oddOf rowSum decision bitAt rowEdges
-row-met g z w tot r column turn l e k lists =
-    every-ext (λ t. not (oddOf w tot z t column turn l)) (λ t. not (checkSum g z (decision g z w) (r * z + t))) z
-    (λ t h.
-    ap not
-    (ap₂ (λ x y. oddOf w x z t column turn y) e k
-    ∙ folded-ext (λ x b. xor x (negative (reading w (bitsOf g z) (getD column b 0 * z + (t + getD turn b 0) % z))))
-    (λ x b. xor x (negative (reading w (bitsOf g z) (bitAt g z b t)))) false (rowEdges g r)
-    (λ i h′ x. ap (λ (v : ℕ). xor x (negative (reading w (bitsOf g z) v))) (same-bit (getD (rowEdges g r) i 0) t (row-entry g r i h′ .edge-lt)))
-    ∙ sym (xorSum-folded (λ b. eqb (edgeRow g b) r) (λ b. negative (reading w (bitsOf g z) (bitAt g z b t))) (edges g))
-    ∙ row-sum g z (decision g z w) r t h))
-  where
-    same-bit : (b t : ℕ) → b < edges g → getD column b 0 * z + (t + getD turn b 0) % z ≡ bitAt g z b t
-    same-bit b t h = rw (lists b h .0, lists b h .1, add-mod-mod)

@@ -1,4 +1,2 @@
 -- The terms of the passes. Assumes nothing.
 pub mod Runs
-pub mod Lent
-pub mod Columns

@@ -45,6 +45,13 @@ fn signed(negative: bool) -> f32
     if negative { -1.0 } else { 1.0 }
 }
 
+// The same by arithmetic: where one check is worked at a time, a select between constants would be a branch.
+fn unit(negative: bool) -> f32
+    ensures { λ r. ⌜ r ≡ Floats.signed negative ⌝ }
+{
+    1.0 - 2.0 * ((negative as u16) as f32)
+}
+
 // A minimum and a maximum in the form that is one instruction: b where neither is below the other, or one is NaN.
 fn lesser(a: f32, b: f32) -> f32
     ensures { λ r. ⌜ r ≡ cond (lt a b) a b ⌝ }
@@ -102,7 +109,7 @@ impl Least {
     pub fn weight(self, factor: f32, negative: bool) -> f32
         ensures { λ r. ⌜ r ≡ mul binary32 factor (Floats.signed (xor (self .sign) negative)) ⌝ }
     {
-        factor * signed(self.sign != negative)
+        factor * unit(self.sign != negative)
     }
 
     // Whether the smallest magnitude is below infinity: then argmin is the place of a message.

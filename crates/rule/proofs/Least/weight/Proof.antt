@@ -7,13 +7,13 @@ use borrow.Author.Needs.{needs}
 use Rattle.rule.proofs.Least.weight.Statement.{statement}
 use Rattle.rule.proofs.Least.weight.Tie as tie
 
-signed-requires : tie.Need-signed-requires
-signed-requires c κs = search needs
+unit-requires : tie.Need-unit-requires
+unit-requires c κs = search needs
 
 returns : tie.Need-returns
 returns c =
     let args = c .before .before .args in
-    ap (mul binary32 (args .factor)) (c .signed .ensures ∙ ap signed (unlike-xor (args .self .sign) (args .negative)))
+    ap (mul binary32 (args .factor)) (c .unit .ensures ∙ ap signed (unlike-xor (args .self .sign) (args .negative)))
 
 pub weight-spec : {M : Type 1} → statement M
-weight-spec = tie.close (tie.spec signed-requires returns)
+weight-spec = tie.close (tie.spec unit-requires returns)

@@ -1,0 +1,2 @@
+-- The laws of the convergence test. Assumes nothing.
+pub mod Settled

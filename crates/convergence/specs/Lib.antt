@@ -1,0 +1,2 @@
+-- The terms of the convergence test. Assumes nothing.
+pub mod Decided

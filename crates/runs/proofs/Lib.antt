@@ -1,0 +1,2 @@
+-- The laws of turned runs. Assumes nothing.
+pub mod Turned

@@ -1,0 +1,2 @@
+-- The bit pass in one, column after column. Assumes nothing.
+pub mod Columns

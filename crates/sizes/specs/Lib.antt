@@ -1,0 +1,2 @@
+-- What every pass is lent. Assumes nothing.
+pub mod Lent
