@@ -84,6 +84,71 @@ module _ (edges : List ℕ) (i z t u : ℕ) (t-fits : t + 4 ≤ z) (u-fits : u +
       (run-more {Q = Half} (b * z + t) 4 W U e (λ s p. inl p) (λ j l. inr (omega arith, omega arith)) (λ s q. q))
       X k old new back
 
+-- a block that is loaded holds the messages as they were
+loaded : (from to k : ℕ) {P : ℕ → Type 0} {f : ℕ → Float} (work₀ work x : List Float) → Written nan to P f work₀ work → from + k + 4 ≤ to
+    → x ≡ tabulate (reading work (from + k)) 4 → (j : ℕ) → j < 4 → getD x j nan ≡ reading work₀ from (k + j)
+loaded from to k work₀ work x W h e j l =
+    let is : from + k + j ≡ from + (k + j) = omega arith in
+    ap (λ y. getD y j nan) e ∙ getD-tabulate nan (reading work (from + k)) 4 j l ∙ low W (from + k + j) (omega arith)
+    ∙ ap (λ (y : ℕ). getD work₀ y nan) is
+
+-- what is done at one block: its messages are loaded from w, and what it sends is put from w′ to w″
+pub record Done (from to z t b : ℕ) (edges : List ℕ) (factor : Float) (work₀ w w′ w″ : List Float) (s p : ℕ) (l : List Least) (x v : List Float) : Type 0 where
+  pub at : s ≡ b * z + t
+  pub place : p ≡ b
+  pub gathered : l ≡ gatheredFour (reading work₀ from) z t edges
+  pub read : x ≡ tabulate (reading w (from + s)) 4
+  pub said : v ≡ tabulate (λ j. answered factor (getD l j past) (getD x j nan) p) 4
+  pub put : Ran (to + s) 4 (λ j. getD v j nan) w′ w″
+
+-- the slots of the first i base edges are written, at both blocks
+abbrev pub SentUpto : ℕ → ℕ → ℕ → ℕ → ℕ → List ℕ → Float → ℕ → List Float → List Float → Type 0
+SentUpto from to z t u edges factor i work₀ work =
+    Written nan to (Pairs edges i z t u) (answer factor z edges (reading work₀ from)) work₀ work
+
+module _ (from to z t u : ℕ) (edges : List ℕ) (factor : Float) (i : ℕ) (t-fits : t + 4 ≤ z) (u-fits : u + 4 ≤ z)
+    (before : from + (getD edges i 0 * z + z) ≤ to) (work₀ work work′ work″ : List Float) where
+  abbrev edge : ℕ
+  edge = getD edges i 0
+
+  sent : (y : ℕ) → y + 4 ≤ z → SentUpto from to z t u edges factor i work₀ work → {w′ w″ : List Float} (s p : ℕ) (l : List Least) (x v : List Float)
+      → Done from to z y edge edges factor work₀ work w′ w″ s p l x v
+      → (j : ℕ) → j < 4 → getD v j nan ≡ answer factor z edges (reading work₀ from) (edge * z + y + j)
+  sent y fits W s p l x v d =
+      block-sent factor z y edges (reading work₀ from) edge p l x v fits (d .place) (d .gathered)
+      (loaded from to (edge * z + y) work₀ work x W (omega arith)
+      (subst (λ (k : ℕ). x ≡ tabulate (reading work (from + k)) 4) (d .at) (d .read)))
+      (d .said)
+
+  -- one base edge more
+  pub sent-more : (s r p q : ℕ) (l k : List Least) (m n v x : List Float) → SentUpto from to z t u edges factor i work₀ work
+      → Done from to z t edge edges factor work₀ work work work′ s p l m v
+      → Done from to z u edge edges factor work₀ work work′ work″ r q k n x
+      → SentUpto from to z t u edges factor (i + 1) work₀ work″
+  sent-more s r p q l k m n v x W d e =
+      edge-sent edges i z t u t-fits u-fits to (answer factor z edges (reading work₀ from)) (λ j. getD v j nan) (λ j. getD x j nan) work₀ work work′ work″ W
+      (subst (λ (y : ℕ). Ran (to + y) 4 (λ j. getD v j nan) work work′) (d .at) (d .put))
+      (subst (λ (y : ℕ). Ran (to + y) 4 (λ j. getD x j nan) work′ work″) (e .at) (e .put))
+      (sent t t-fits W s p l m v d)
+      (sent u u-fits W r q k n x e)
+
+-- one base edge more at one block: as two blocks that are the same, the second of which leaves all as it is
+module _ (from to z t : ℕ) (edges : List ℕ) (factor : Float) (i : ℕ) (fits : t + 4 ≤ z)
+    (before : from + (getD edges i 0 * z + z) ≤ to) (work₀ work work′ : List Float) where
+  pub sent-one : (s p : ℕ) (l : List Least) (m v : List Float) → SentUpto from to z t t edges factor i work₀ work
+      → Done from to z t (getD edges i 0) edges factor work₀ work work work′ s p l m v
+      → SentUpto from to z t t edges factor (i + 1) work₀ work′
+  sent-one s p l m v W d =
+      sent-more from to z t t edges factor i fits fits before work₀ work work′ work′ s s p p l l m m v v W d
+      (record {
+        at = d .at;
+        place = d .place;
+        gathered = d .gathered;
+        read = d .read;
+        said = d .said;
+        put = record { long = refl; at = d .put .at; off = λ i k. refl };
+      })
+
 -- one pair of blocks more, at `at` and `next`, after the offsets below t
 module _ (from to z : ℕ) (edges : List ℕ) (factor : Float) (lift : 0 < z) (within : Within z from to edges) (t at next : ℕ) (w₀ w w′ : List Float) where
   abbrev f : ℕ → Float

@@ -3,13 +3,12 @@ use mathlib.Core.Path.{_≡_, refl, sym, ap, _∙_, subst}
 use mathlib.Core.Bool.{Bool, true, false, cond, xor, false≢true}
 use mathlib.Core.List.{List}
 use Prim.Native.Nat.{ℕ, zero, suc, _+_, _*_, _/_, _%_, _≤_, _<_}
-use native.Mathlib.Decide.{ℕ-discrete}
 use native.Mathlib.Omega.{arith}
 use native.Mathlib.Numerals.{add-one}
 use borrow.Author.Tests.{eq-eqb, ne-eqb}
 use lib.Dec.{eqb}
-use lib.ListN.{length, take, getD, set, length-set}
-use lib.Seq.{take-all, getD-set-same, getD-set-other}
+use lib.ListN.{length, take, getD, set}
+use lib.Seq.{take-all}
 use lib.Ieee.{Float, nan, inf, lt, mul, binary32}
 use Rattle.laws.specs.Range.{folded}
 use Rattle.laws.specs.Floats.{negative, magnitude, signed}
@@ -21,7 +20,7 @@ use Rattle.rule.specs.declared.Least.{Least}
 use Rattle.rule.specs.Rule.{started, taken, answered, Ordered}
 use Rattle.rule.proofs.Ordered.{unbounded}
 use Rattle.messages.specs.Iteration.{gathered, answer}
-use Rattle.checks.specs.Row.{Of, Check, Within, weighed}
+use Rattle.checks.specs.Row.{Check, Within, weighed}
 
 -- the place of a smallest magnitude that is below infinity is one of the base edges
 record Place (edges : List ℕ) (n place : ℕ) : Type 0 where

@@ -1,5 +1,6 @@
 // The checks of a base row by two blocks of 4 at a time. The blocks of a pair may overlap: what a check sends is a matter of the
 // messages to it alone, so that it may be computed twice.
+use crate::block::check_block;
 use crate::blocks;
 use crate::slots::place;
 use crate::slots::slot;
@@ -94,6 +95,27 @@ fn check_pair(
     scatter(work, from, to, z, t, u, edges, first, second, factor);
 }
 
+// The same, where the two blocks that are one are worked once.
+fn check_blocks(
+    work: &mut [f32],
+    from: usize,
+    to: usize,
+    z: usize,
+    t: usize,
+    u: usize,
+    edges: &[u8],
+    factor: f32,
+)
+    requires { ⌜ (t + 4 ≤ z) × (u + 4 ≤ z) × (z ≤ 324) × Within z from to (now edges) × Within z to (length (now work)) (now edges) ⌝ }
+    ensures { λ _. ⌜ Written nan to (Pairs (now (edges .entry)) (length (now (edges .entry))) z t u) (answer factor z (now (edges .entry)) (reading (now (work .entry)) from)) (now (work .entry)) (now (work .exit)) ⌝ }
+{
+    if t == u {
+        check_block(work, from, to, z, t, edges, factor);
+    } else {
+        check_pair(work, from, to, z, t, u, edges, factor);
+    }
+}
+
 // The checks of a row of 4 or more; the last blocks go back as far as they must.
 pub fn row(work: &mut [f32], from: usize, to: usize, z: usize, edges: &[u8], factor: f32)
     requires { ⌜ (4 ≤ z) × (z ≤ 324) × Within z from to (now edges) × Within z to (length (now work)) (now edges) ⌝ }
@@ -104,7 +126,7 @@ pub fn row(work: &mut [f32], from: usize, to: usize, z: usize, edges: &[u8], fac
     while t < z {
         let at = numbers::lesser(t, last);
         let next = numbers::lesser(at + 4, last);
-        check_pair(work, from, to, z, at, next, edges, factor);
+        check_blocks(work, from, to, z, at, next, edges, factor);
         t = next + 4;
     }
 }

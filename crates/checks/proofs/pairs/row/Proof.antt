@@ -1,11 +1,10 @@
 -- `row` meets its contract. The invariant: the checks at the offsets below t are done. Assumes nothing.
-use mathlib.Core.List.{List}
-use Prim.Native.Nat.{ℕ, _+_, _%_, _-_, _≤_, _<_}
+use Prim.Native.Nat.{_%_, _-_, _≤_, _<_}
 use native.Mathlib.Omega.{arith}
 use native.Mathlib.Nat.{mod-lt}
 use borrow.Author.Needs.{needs}
 use lib.ListN.{length}
-use lib.Ieee.{Float, nan}
+use lib.Ieee.{nan}
 use Rattle.laws.proofs.Written.{Upto, upto-none, upto-all}
 use Rattle.laws.specs.Written.{Written}
 use Rattle.messages.specs.Memory.{reading}
@@ -37,8 +36,8 @@ add-lesser c = omega (arith, c .lesser .ensures, c .before .before .before .befo
 lesser-requires-2 : tie.Need-lesser-requires-2 Inv-loop μ-loop
 lesser-requires-2 c κs = search needs
 
-check-pair-requires : tie.Need-check-pair-requires Inv-loop μ-loop
-check-pair-requires c κs =
+check-blocks-requires : tie.Need-check-blocks-requires Inv-loop μ-loop
+check-blocks-requires c κs =
     let pre = c .before .before .before .before .before .before .before .pre in (
       omega (arith, c .before .before .lesser .ensures, pre .0),
       omega (arith, c .before .lesser2 .ensures, pre .0),
@@ -62,7 +61,7 @@ loop-again c =
       omega (arith, next, start .pre .0),
       pair-more (start .args .from) (start .args .to) (start .args .z) (start .args .edges .now) (start .args .factor) (omega (arith, start .pre .0))
           (start .pre .2) (c .before .before .before .before .before .before .before .loop .t) (c .before .before .before .before .before .lesser .result) (c .before .before .before .before .lesser2 .result) (start .args .work .now) (c .before .before .before .before .before .before .before .loop .work)
-          (c .before .before .check-pair .last .0) (c .before .before .before .before .before .before .before .loop .inv .1) (c .before .before .check-pair .ensures)
+          (c .before .before .check-blocks .last .0) (c .before .before .before .before .before .before .before .loop .inv .1) (c .before .before .check-blocks .ensures)
           (omega (arith, at))
           (omega (arith, at, next, start .pre .0))
           (omega (arith, at, next))
@@ -88,7 +87,7 @@ row-spec =
     lesser-requires
     add-lesser
     lesser-requires-2
-    check-pair-requires
+    check-blocks-requires
     add-t
     loop-less
     loop-again

@@ -1,67 +1,13 @@
 -- `scatter` meets its contract. The invariant: the slots of the first i base edges are written, at both blocks. Assumes nothing.
-use mathlib.Core.Path.{_≡_, ap, _∙_, subst}
-use mathlib.Core.List.{List}
-use Prim.Native.Nat.{ℕ, _+_, _*_, _-_, _≤_, _<_}
+use mathlib.Core.Path.{_≡_, subst}
+use Prim.Native.Nat.{ℕ, _-_, _≤_}
 use native.Mathlib.Omega.{arith}
 use borrow.Author.Needs.{needs}
-use lib.ListN.{length, getD}
-use lib.Ieee.{Float, nan}
-use Rattle.laws.specs.Written.{Written, tabulate}
-use Rattle.laws.proofs.Written.{none, low, getD-tabulate}
-use Rattle.messages.specs.Memory.{reading}
-use Rattle.messages.specs.Iteration.{answer}
-use Rattle.rule.specs.declared.Least.{Least}
-use Rattle.rule.specs.Rule.{answered}
-use Rattle.checks.specs.Row.{Ran, Pairs, past, gatheredFour}
-use Rattle.checks.proofs.Sent.{block-sent, edge-sent}
+use lib.ListN.{length}
+use Rattle.laws.proofs.Written.{none}
+use Rattle.checks.proofs.Sent.{SentUpto, sent-more}
 use Rattle.checks.proofs.pairs.scatter.Statement.{statement}
 use Rattle.checks.proofs.pairs.scatter.Tie as tie
-
--- a block that is loaded holds the messages as they were
-loaded : (from to k : ℕ) {P : ℕ → Type 0} {f : ℕ → Float} (work₀ work x : List Float) → Written nan to P f work₀ work → from + k + 4 ≤ to
-    → x ≡ tabulate (reading work (from + k)) 4 → (j : ℕ) → j < 4 → getD x j nan ≡ reading work₀ from (k + j)
-loaded from to k work₀ work x W h e j l =
-    let is : from + k + j ≡ from + (k + j) = omega arith in
-    ap (λ y. getD y j nan) e ∙ getD-tabulate nan (reading work (from + k)) 4 j l ∙ low W (from + k + j) (omega arith)
-    ∙ ap (λ (y : ℕ). getD work₀ y nan) is
-
--- what is done at one block: its messages are loaded from w, and what it sends is put from w′ to w″
-record Done (from to z t b : ℕ) (edges : List ℕ) (factor : Float) (work₀ w w′ w″ : List Float) (s p : ℕ) (l : List Least) (x v : List Float) : Type 0 where
-  at : s ≡ b * z + t
-  place : p ≡ b
-  gathered : l ≡ gatheredFour (reading work₀ from) z t edges
-  read : x ≡ tabulate (reading w (from + s)) 4
-  said : v ≡ tabulate (λ j. answered factor (getD l j past) (getD x j nan) p) 4
-  put : Ran (to + s) 4 (λ j. getD v j nan) w′ w″
-
-abbrev SentUpto : ℕ → ℕ → ℕ → ℕ → ℕ → List ℕ → Float → ℕ → List Float → List Float → Type 0
-SentUpto from to z t u edges factor i work₀ work =
-    Written nan to (Pairs edges i z t u) (answer factor z edges (reading work₀ from)) work₀ work
-
-module _ (from to z t u : ℕ) (edges : List ℕ) (factor : Float) (i : ℕ) (t-fits : t + 4 ≤ z) (u-fits : u + 4 ≤ z)
-    (before : from + (getD edges i 0 * z + z) ≤ to) (work₀ work work′ work″ : List Float) where
-  abbrev b : ℕ
-  b = getD edges i 0
-
-  sent : (y : ℕ) → y + 4 ≤ z → SentUpto from to z t u edges factor i work₀ work → {w′ w″ : List Float} (s p : ℕ) (l : List Least) (x v : List Float)
-      → Done from to z y b edges factor work₀ work w′ w″ s p l x v
-      → (j : ℕ) → j < 4 → getD v j nan ≡ answer factor z edges (reading work₀ from) (b * z + y + j)
-  sent y fits W s p l x v d =
-      block-sent factor z y edges (reading work₀ from) b p l x v fits (d .place) (d .gathered)
-      (loaded from to (b * z + y) work₀ work x W (omega arith)
-      (subst (λ (k : ℕ). x ≡ tabulate (reading work (from + k)) 4) (d .at) (d .read)))
-      (d .said)
-
-  turn : (s r p q : ℕ) (l k : List Least) (m n v x : List Float) → SentUpto from to z t u edges factor i work₀ work
-      → Done from to z t b edges factor work₀ work work work′ s p l m v
-      → Done from to z u b edges factor work₀ work work′ work″ r q k n x
-      → SentUpto from to z t u edges factor (i + 1) work₀ work″
-  turn s r p q l k m n v x W d e =
-      edge-sent edges i z t u t-fits u-fits to (answer factor z edges (reading work₀ from)) (λ j. getD v j nan) (λ j. getD x j nan) work₀ work work′ work″ W
-      (subst (λ (y : ℕ). Ran (to + y) 4 (λ j. getD v j nan) work work′) (d .at) (d .put))
-      (subst (λ (y : ℕ). Ran (to + y) 4 (λ j. getD x j nan) work′ work″) (e .at) (e .put))
-      (sent t t-fits W s p l m v d)
-      (sent u u-fits W r q k n x e)
 
 abbrev Inv-loop : tie.InvT-loop
 Inv-loop work₀ from to z t u edges first second factor i₀ work i = (i ≤ length edges) × SentUpto from to z t u edges factor i work₀ work
@@ -129,7 +75,7 @@ loop-again c =
     let i = c .before .before .before .before .before .before .before .before .before .before .before .before .before .before .before .before .before .before .before .before .loop .i in
     let h = c .before .before .before .before .before .before .before .before .before .before .before .before .before .before .before .before .before .before .before .loop-test .taken in (
       omega arith,
-      turn (start .args .from) (start .args .to) (start .args .z) (start .args .t) (start .args .u) (start .args .edges .now) (start .args .factor) i
+      sent-more (start .args .from) (start .args .to) (start .args .z) (start .args .t) (start .args .u) (start .args .edges .now) (start .args .factor) i
           (start .pre .0 .0) (start .pre .0 .1) (start .pre .0 .3 i h) (start .args .work .now) (c .before .before .before .before .before .before .before .before .before .before .before .before .before .before .before .before .before .before .before .before .loop .work) (c .before .before .before .before .before .before .before .before .store .last .0)
           (c .before .before .store2 .last .0) (c .before .before .before .before .before .before .before .before .before .before .before .before .before .before .before .before .before .slot .result) (c .before .before .before .before .before .before .before .before .before .before .before .before .before .before .before .before .slot2 .result) (c .before .before .before .before .before .before .before .before .before .before .place .result) (c .before .before .before .before .place2 .result) (start .args .first)
           (start .args .second) (c .before .before .before .before .before .before .before .before .before .before .before .before .before .before .load .result) (c .before .before .before .before .before .before .before .before .before .before .before .before .load2 .result) (c .before .before .before .before .before .before .before .before .before .message .result) (c .before .before .before .message2 .result) (c .before .before .before .before .before .before .before .before .before .before .before .before .before .before .before .before .before .before .before .before .loop .inv .1)
