@@ -15,7 +15,7 @@ use Rattle.rule.specs.Rule.{started, taken, Ordered}
 use Rattle.rule.proofs.Ordered.{started-ordered}
 use Rattle.messages.specs.Memory.{reading}
 use Rattle.messages.specs.Iteration.{gathered}
-use Rattle.checks.specs.Row.{Ran, AllOrdered, past, gatheredFour}
+use Rattle.slots.specs.Row.{Ran, AllOrdered, past, gatheredFour}
 
 pub four-ordered : {a b c d : Least} → Ordered a → Ordered b → Ordered c → Ordered d → AllOrdered (a ∷ b ∷ c ∷ d ∷ [])
 four-ordered p q r s zero h = p

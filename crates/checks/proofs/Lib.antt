@@ -1,4 +1,3 @@
--- The laws of the check pass. Assumes nothing.
+-- The laws of blocks of 4, and of what pairs of them send. Assumes nothing.
 pub mod Four
 pub mod Sent
-pub mod Smallest

@@ -16,7 +16,7 @@ use Rattle.rule.specs.Rule.{answered}
 use Rattle.messages.specs.Memory.{reading}
 use Rattle.messages.specs.Iteration.{gathered, answer}
 use Rattle.messages.proofs.Local.{answer-agrees}
-use Rattle.checks.specs.Row.{Ran, Of, Within, Near, Pairs, past, gatheredFour}
+use Rattle.slots.specs.Row.{Ran, Of, Within, Near, Pairs, past, gatheredFour}
 
 -- what a block of messages holds
 pub block-sent : (factor : Float) (z t : ℕ) (edges : List ℕ) (m : ℕ → Float) (b place : ℕ) (l : List Least) (x v : List Float) → t + 4 ≤ z

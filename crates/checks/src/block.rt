@@ -1,8 +1,8 @@
 // The checks of a base row at one block of 4.
 use crate::blocks;
-use crate::slots::place;
-use crate::slots::slot;
 use rule::Least;
+use slots::place;
+use slots::slot;
 ghost use mathlib.Core.Path.{_≡_};
 ghost use Prim.Native.Nat.{_+_, _≤_};
 ghost use lib.ListN.{length};
@@ -10,7 +10,7 @@ ghost use lib.Ieee.{nan};
 ghost use Rattle.laws.specs.Written.{Written};
 ghost use Rattle.messages.specs.Memory.{reading};
 ghost use Rattle.messages.specs.Iteration.{answer};
-ghost use Rattle.checks.specs.Row.{Within, gatheredFour, Pairs};
+ghost use Rattle.slots.specs.Row.{Within, gatheredFour, Pairs};
 
 // What the messages of some base edges come to, at the offsets from t on; the messages stand from `from` on.
 fn gather(work: &[f32], from: usize, z: usize, t: usize, edges: &[u8]) -> [Least; 4]

@@ -8,7 +8,7 @@ ghost use lib.Ieee.{nan};
 ghost use Rattle.laws.specs.Written.{tabulate};
 ghost use Rattle.rule.specs.Rule.{started, taken, answered};
 ghost use Rattle.messages.specs.Memory.{reading};
-ghost use Rattle.checks.specs.Row.{Ran, AllOrdered, past};
+ghost use Rattle.slots.specs.Row.{Ran, AllOrdered, past};
 
 // The numbers from `at` on.
 pub fn load(work: &[f32], at: usize) -> [f32; 4]

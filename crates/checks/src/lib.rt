@@ -4,8 +4,5 @@ mod block;
 mod blocks;
 mod pairs;
 mod row;
-mod single;
-mod slots;
 
 pub use row::check_row;
-pub use slots::slot;

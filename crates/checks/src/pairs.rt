@@ -2,9 +2,9 @@
 // messages to it alone, so that it may be computed twice.
 use crate::block::check_block;
 use crate::blocks;
-use crate::slots::place;
-use crate::slots::slot;
 use rule::Least;
+use slots::place;
+use slots::slot;
 ghost use mathlib.Core.Path.{_≡_};
 ghost use Prim.Native.Nat.{_+_, _<_, _≤_};
 ghost use lib.ListN.{length};
@@ -12,7 +12,7 @@ ghost use lib.Ieee.{nan};
 ghost use Rattle.laws.specs.Written.{Written};
 ghost use Rattle.messages.specs.Memory.{reading};
 ghost use Rattle.messages.specs.Iteration.{answer};
-ghost use Rattle.checks.specs.Row.{Of, Within, gatheredFour, Pairs};
+ghost use Rattle.slots.specs.Row.{Of, Within, gatheredFour, Pairs};
 
 // What the checks of two blocks have gathered.
 struct Pair {

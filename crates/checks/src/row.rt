@@ -1,6 +1,5 @@
 // The checks of a base row, by the way that its lift allows.
 use crate::pairs;
-use crate::single;
 ghost use mathlib.Core.Path.{_≡_};
 ghost use Prim.Native.Nat.{_<_, _≤_};
 ghost use lib.ListN.{length};
@@ -8,7 +7,7 @@ ghost use lib.Ieee.{nan};
 ghost use Rattle.laws.specs.Written.{Written};
 ghost use Rattle.messages.specs.Memory.{reading};
 ghost use Rattle.messages.specs.Iteration.{answer};
-ghost use Rattle.checks.specs.Row.{Of, Within};
+ghost use Rattle.slots.specs.Row.{Of, Within};
 
 // What the checks of a base row send, whose base edges are lent: of the messages from `from` on, to the region from `to` on.
 pub fn check_row(work: &mut [f32], from: usize, to: usize, z: usize, edges: &[u8], factor: f32)

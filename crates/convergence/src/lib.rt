@@ -1,7 +1,7 @@
 // The convergence test: whether the decisions meet every check, by the lists of the call. What these functions require, their
 // callers in this and the decoder's crates meet.
+mod offsets;
 mod row;
-mod slots;
 
 use ldpc::Code;
 use row::met_row;

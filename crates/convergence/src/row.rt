@@ -1,6 +1,6 @@
 // Whether the decisions meet the checks of a base row.
-use crate::slots::turned;
-use checks::slot;
+use crate::offsets::turned;
+use slots::slot;
 ghost use mathlib.Core.Path.{_≡_};
 ghost use mathlib.Core.Bool.{not};
 ghost use Prim.Native.Nat.{ℕ, _+_, _*_, _%_, _<_, _≤_};

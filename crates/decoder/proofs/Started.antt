@@ -27,7 +27,7 @@ use Rattle.ldpc.proofs.Made.{sized}
 use Rattle.ldpc.proofs.CodeEdges.{code-simple}
 use Rattle.minsum.specs.declared.sizes.Sizes.{Sizes}
 use Rattle.minsum.specs.Lent.{sizesOf, Ready}
-use Rattle.checks.specs.Row.{Ran}
+use Rattle.slots.specs.Row.{Ran}
 use Rattle.decoder.specs.Decoding.{certain, channelOf, startMemory, wordOf}
 
 -- where the parity columns begin, among the other sizes

@@ -12,7 +12,7 @@ ghost use lib.Ieee.{nan};
 ghost use Rattle.messages.specs.Memory.{bitsOf};
 ghost use Rattle.ldpc.specs.Choice.{made};
 ghost use Rattle.ldpc.specs.Code.{codeGraph, infoEnd, workOf};
-ghost use Rattle.checks.specs.Row.{Ran};
+ghost use Rattle.slots.specs.Row.{Ran};
 ghost use Rattle.minsum.specs.Lent.{sizesOf, Ready, Edges};
 ghost use Rattle.decoder.specs.Decoding.{channelOf, startMemory};
 ghost use Rattle.decoder.specs.Calls.{toldDecode, startTold, startWritten};

@@ -25,7 +25,7 @@ use Rattle.matrix.proofs.Simple.{Simple}
 use Rattle.messages.specs.Memory.{bitsOf, slotsOf, toChecks, toBits, needed, reading}
 use Rattle.messages.specs.Iteration.{answer, toBit, checkPass, added, total, totalPass, ofBit, spreadPass, toCheck, sendPass}
 use Rattle.messages.proofs.Local.{answer-agrees}
-use Rattle.checks.specs.Row.{Of, Ran}
+use Rattle.slots.specs.Row.{Of, Ran}
 use Rattle.minsum.specs.Runs.{RowDone, EdgeDone, EdgeAdded, Summed}
 
 module _ (g : BaseGraph) (z : ℕ) (lift : 0 < z) where

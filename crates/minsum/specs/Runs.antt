@@ -9,7 +9,7 @@ use Rattle.tables.specs.declared.BaseGraph.{BaseGraph}
 use Rattle.matrix.specs.Edges.{edgeRow, edgesByRow}
 use Rattle.messages.specs.Memory.{bitsOf, slotsOf, toChecks, toBits, reading}
 use Rattle.messages.specs.Iteration.{toBit, added}
-use Rattle.checks.specs.Row.{Ran}
+use Rattle.slots.specs.Row.{Ran}
 
 -- the checks of base row r have sent their messages to bits
 abbrev pub RowDone : Float → BaseGraph → ℕ → ℕ → List Float → List Float → Type 0

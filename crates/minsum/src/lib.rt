@@ -43,7 +43,7 @@ fn add_edge(c: Code, s: Sizes, column: &[u8], turn: &[u16], b: usize, work: &mut
     let z = c.z;
     let tot = s.bits + numbers::wide8(column[b]) * z;
     let msg = 2 * s.bits + s.slots + b * z;
-    runs::add_turned(work, tot, msg, numbers::wide16(turn[b]), z);
+    segments::add_turned(work, tot, msg, numbers::wide16(turn[b]), z);
 }
 
 // Adds the messages over every base edge, row after row.
@@ -63,7 +63,7 @@ fn total_pass(c: Code, s: Sizes, order: &[u8], column: &[u8], turn: &[u16], work
     requires { ⌜ Ready c s (length (now work)) × (now order ≡ orderOf (codeGraph c)) × Edges c (now column) (now turn) ⌝ }
     ensures { λ _. ⌜ now (work .exit) ≡ totalPass (codeGraph c) (c .z) (now (work .entry)) ⌝ }
 {
-    runs::copy_run(work, s.bits, 0, s.bits);
+    segments::copy_run(work, s.bits, 0, s.bits);
     add_edges(c, s, order, column, turn, work);
 }
 
@@ -74,7 +74,7 @@ fn spread_edge(c: Code, s: Sizes, column: &[u8], turn: &[u16], b: usize, work: &
 {
     let z = c.z;
     let from = numbers::wide8(column[b]) * z;
-    runs::copy_turned(work, 2 * s.bits + b * z, from, numbers::wide16(turn[b]), z);
+    segments::copy_turned(work, 2 * s.bits + b * z, from, numbers::wide16(turn[b]), z);
 }
 
 // What every bit sends to its checks at the start: its channel value.
@@ -97,7 +97,7 @@ fn send_edge(c: Code, s: Sizes, column: &[u8], turn: &[u16], b: usize, work: &mu
     let z = c.z;
     let tot = s.bits + numbers::wide8(column[b]) * z;
     let at = 2 * s.bits + b * z;
-    runs::subtract_turned(work, at, tot, at + s.slots, numbers::wide16(turn[b]), z);
+    segments::subtract_turned(work, at, tot, at + s.slots, numbers::wide16(turn[b]), z);
 }
 
 // What every bit sends to its checks.

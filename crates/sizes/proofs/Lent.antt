@@ -20,7 +20,7 @@ use Rattle.ldpc.proofs.CodeEdges.{code-simple}
 use Rattle.lists.specs.Lists.{orderOf, startsOf, perEdge}
 use Rattle.lists.proofs.Filled.{per-edge-at}
 use Rattle.sizes.specs.declared.Sizes.{Sizes}
-use Rattle.checks.specs.Row.{Within}
+use Rattle.slots.specs.Row.{Within}
 use Rattle.sizes.specs.Lent.{sizesOf, Ready, Rows, Edges}
 
 pub record Known (c : Code) (s : Sizes) (len : ℕ) : Type 0 where

@@ -18,7 +18,7 @@ use Rattle.laws.proofs.Folded.{folded-ext}
 use Rattle.laws.proofs.Written.{Upto, low}
 use Rattle.laws.proofs.Slots.{slot-div, slot-mod, slot-is, turned-low, turned-high, back-low, back-high, back-then-on-by}
 use Rattle.messages.specs.Memory.{reading}
-use Rattle.checks.specs.Row.{Of}
+use Rattle.slots.specs.Row.{Of}
 use Rattle.totals.specs.Joined.{joinedSlot, totalOver, Joins, Reaches, Place, offsetOf, totalAt, sentAt}
 
 -- an offset turned on by s to j is j turned back

@@ -10,7 +10,7 @@ use lib.ListN.{length, getD}
 use lib.Ieee.{Float, nan, add, sub, binary32}
 use Rattle.laws.specs.Range.{folded}
 use Rattle.messages.specs.Memory.{reading}
-use Rattle.checks.specs.Row.{Of}
+use Rattle.slots.specs.Row.{Of}
 
 -- the slot at which base edge b joins the bit at offset j of its column
 unfoldable pub joinedSlot : ℕ → List ℕ → ℕ → ℕ → ℕ

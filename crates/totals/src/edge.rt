@@ -1,5 +1,5 @@
 // Where a base edge joins a bit.
-use checks::slot;
+use slots::slot;
 ghost use mathlib.Core.Path.{_≡_};
 ghost use Prim.Native.Nat.{_+_, _*_, _-_, _%_, _<_, _≤_};
 

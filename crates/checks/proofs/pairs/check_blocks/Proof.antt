@@ -7,7 +7,7 @@ use denote.Ref.{now}
 use Rattle.laws.specs.Written.{Written}
 use Rattle.messages.specs.Memory.{reading}
 use Rattle.messages.specs.Iteration.{answer}
-use Rattle.checks.specs.Row.{Pairs}
+use Rattle.slots.specs.Row.{Pairs}
 use borrow.Author.Needs.{needs}
 use Rattle.checks.proofs.pairs.check_blocks.Statement.{statement}
 use Rattle.checks.proofs.pairs.check_blocks.Tie as tie

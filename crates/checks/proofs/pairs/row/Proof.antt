@@ -9,7 +9,7 @@ use Rattle.laws.proofs.Written.{Upto, upto-none, upto-all}
 use Rattle.laws.specs.Written.{Written}
 use Rattle.messages.specs.Memory.{reading}
 use Rattle.messages.specs.Iteration.{answer}
-use Rattle.checks.specs.Row.{Of}
+use Rattle.slots.specs.Row.{Of}
 use Rattle.checks.proofs.Sent.{pair-more}
 use Rattle.checks.proofs.pairs.row.Statement.{statement}
 use Rattle.checks.proofs.pairs.row.Tie as tie

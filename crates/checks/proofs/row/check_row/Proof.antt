@@ -7,7 +7,7 @@ use denote.Ref.{now}
 use Rattle.laws.specs.Written.{Written}
 use Rattle.messages.specs.Memory.{reading}
 use Rattle.messages.specs.Iteration.{answer}
-use Rattle.checks.specs.Row.{Of, Within}
+use Rattle.slots.specs.Row.{Of, Within}
 use borrow.Author.Needs.{needs}
 use Rattle.checks.proofs.row.check_row.Statement.{statement}
 use Rattle.checks.proofs.row.check_row.Tie as tie
