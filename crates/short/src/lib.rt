@@ -4,27 +4,28 @@ use sizes::Sizes;
 ghost use mathlib.Core.Path.{_≡_};
 ghost use Prim.Native.Nat.{_+_, _<_};
 ghost use lib.ListN.{length};
+ghost use Rattle.matrix.specs.Edges.{ColumnList};
 ghost use Rattle.messages.specs.Iteration.{totalPass, sendPass};
 ghost use Rattle.ldpc.specs.Code.{codeGraph};
 ghost use Rattle.short.specs.Columns.{ColumnDone};
 ghost use Rattle.sizes.specs.Lent.{Ready, Turns, Sorted};
 
-// An information column, whose base edges are listed in rising row.
+// A column whose base edges are lent, in rising row.
+fn listed_column(c: Code, s: Sizes, edges: &[u8], turn: &[u16], v: usize, work: &mut [f32])
+    requires { ⌜ Ready c s (length (now work)) × Turns c (now turn) × (v < codeGraph c .shape .«n_b») × ColumnList (codeGraph c) v (now edges) ⌝ }
+    ensures { λ _. ⌜ ColumnDone (codeGraph c) (c .z) v (now (work .entry)) (now (work .exit)) ⌝ }
+{
+    let z = c.z;
+    totals::column_pass(work, s.bits, 2 * s.bits + s.slots, z, v * z, edges, turn);
+}
+
+// An information column.
 fn info_column(c: Code, s: Sizes, sorted: &[u8], turn: &[u16], v: usize, work: &mut [f32])
     requires { ⌜ Ready c s (length (now work)) × Sorted c (now sorted) × Turns c (now turn) × (v < codeGraph c .shape .«k_b») ⌝ }
     ensures { λ _. ⌜ ColumnDone (codeGraph c) (c .z) v (now (work .entry)) (now (work .exit)) ⌝ }
 {
-    let z = c.z;
     let at = 3 * v;
-    totals::column_pass(
-        work,
-        s.bits,
-        2 * s.bits + s.slots,
-        z,
-        v * z,
-        &sorted[at..at + 3],
-        turn,
-    );
+    listed_column(c, s, &sorted[at..at + 3], turn, v, work);
 }
 
 // Column k_b: its base edges are of rows 0, m_b − 1 and m_b / 2.
@@ -32,11 +33,10 @@ fn middle_column(c: Code, s: Sizes, turn: &[u16], work: &mut [f32])
     requires { ⌜ Ready c s (length (now work)) × Turns c (now turn) ⌝ }
     ensures { λ _. ⌜ ColumnDone (codeGraph c) (c .z) (codeGraph c .shape .«k_b») (now (work .entry)) (now (work .exit)) ⌝ }
 {
-    let z = c.z;
     let k = s.info;
     let b = (3 * k) as u8;
     let edges: [u8; 3] = [b, b + 2, b + 1];
-    totals::column_pass(work, s.bits, 2 * s.bits + s.slots, z, k * z, &edges, turn);
+    listed_column(c, s, &edges, turn, k, work);
 }
 
 // Column k_b + j, whose base edges are of rows j and j − 1.
@@ -44,19 +44,10 @@ fn stair_column(c: Code, s: Sizes, turn: &[u16], j: usize, work: &mut [f32])
     requires { ⌜ Ready c s (length (now work)) × Turns c (now turn) × (0 < j) × (j < codeGraph c .shape .«m_b») ⌝ }
     ensures { λ _. ⌜ ColumnDone (codeGraph c) (c .z) (codeGraph c .shape .«k_b» + j) (now (work .entry)) (now (work .exit)) ⌝ }
 {
-    let z = c.z;
     let k = s.info;
     let b = (3 * k + 2 * j + 1) as u8;
     let edges: [u8; 2] = [b + 1, b];
-    totals::column_pass(
-        work,
-        s.bits,
-        2 * s.bits + s.slots,
-        z,
-        (k + j) * z,
-        &edges,
-        turn,
-    );
+    listed_column(c, s, &edges, turn, k + j, work);
 }
 
 fn column(c: Code, s: Sizes, sorted: &[u8], turn: &[u16], v: usize, work: &mut [f32])

@@ -1,17 +1,16 @@
 -- `middle_column` meets its contract. Assumes nothing.
-use mathlib.Core.Path.{ap, subst}
+use mathlib.Core.Path.{sym, ap, subst}
 use mathlib.Core.List.{List, [], _∷_}
-use Prim.Native.Nat.{ℕ, _+_, _*_, _-_, _<_, _≤_}
+use Prim.Native.Nat.{ℕ, _+_, _*_, _<_}
 use native.Mathlib.Omega.{arith}
-use borrow.Author.Needs.{needs}
 use lib.ListN.{length}
-use lib.Ieee.{nan}
-use Rattle.laws.specs.Written.{Written}
-use Rattle.totals.specs.Joined.{Place, sentAt}
 use Rattle.matrix.specs.Edges.{ColumnList}
 use Rattle.ldpc.specs.Code.{codeGraph}
 use Rattle.sizes.proofs.Lent.{Known, known}
-use Rattle.short.proofs.Listed.{middle-listed, column-within, column-asked, column-done}
+use Rattle.sizes.specs.Lent.{Ready, Turns}
+use Rattle.short.specs.Columns.{ColumnDone}
+use Rattle.short.proofs.Listed.{middle-listed}
+use borrow.Author.Needs.{needs}
 use Rattle.short.proofs.middle_column.Statement.{statement}
 use Rattle.short.proofs.middle_column.Tie as tie
 
@@ -19,18 +18,11 @@ use Rattle.short.proofs.middle_column.Tie as tie
 sizes : (c : tie.Start) → Known (c .args .c) (c .args .s) (length (c .args .work .now))
 sizes c = known (c .args .c) (c .args .s) (length (c .args .work .now)) (c .pre .0)
 
-column-lt : (c : tie.Start) → codeGraph (c .args .c) .shape .«k_b» < codeGraph (c .args .c) .shape .«n_b»
-column-lt c = omega (arith, sizes c .shape)
-
 abbrev edges : tie.Start → List ℕ
 edges c = let b = 3 * c .args .s .info in b ∷ (b + 2) ∷ (b + 1) ∷ []
 
 listed : (c : tie.Start) → ColumnList (codeGraph (c .args .c)) (codeGraph (c .args .c) .shape .«k_b») (edges c)
 listed c = middle-listed (codeGraph (c .args .c)) (sizes c .shape) (3 * c .args .s .info) (ap (λ (x : ℕ). 3 * x) (sizes c .info-is))
-
--- the numbers of a column are small
-small : (c : tie.Start) → (codeGraph (c .args .c) .shape .«k_b») * c .args .c .z + c .args .c .z ≤ c .args .s .bits
-small c = column-within (c .args .c) (c .args .s) (length (c .args .work .now)) (sizes c) (c .args .turn .now) (c .pre .1) (codeGraph (c .args .c) .shape .«k_b») (column-lt c) _ (listed c)
 
 mul-b : tie.Need-mul-b
 mul-b c = omega (arith, sizes (c .before .before) .info-is, sizes (c .before .before) .shape .info-most)
@@ -38,45 +30,30 @@ mul-b c = omega (arith, sizes (c .before .before) .info-is, sizes (c .before .be
 cast-b : tie.Need-cast-b
 cast-b c = omega (arith, sizes (c .before .before) .info-is, sizes (c .before .before) .shape .info-most)
 
+add-t9 : tie.Need-add-t9
+add-t9 c = omega (arith, sizes (c .before .before) .info-is, sizes (c .before .before) .shape .info-most)
+
 add-t10 : tie.Need-add-t10
 add-t10 c = omega (arith, sizes (c .before .before) .info-is, sizes (c .before .before) .shape .info-most)
 
-add-t11 : tie.Need-add-t11
-add-t11 c = omega (arith, sizes (c .before .before) .info-is, sizes (c .before .before) .shape .info-most)
+slice-aggregate-listed-column : tie.Need-slice-aggregate-listed-column
+slice-aggregate-listed-column c = search needs
 
-mul-column-pass : tie.Need-mul-column-pass
-mul-column-pass c = omega (arith, sizes (c .before .before .before .before))
-
-add-column-pass : tie.Need-add-column-pass
-add-column-pass c = omega (arith, sizes (c .before .before .before .before .before))
-
-mul-column-pass-2 : tie.Need-mul-column-pass-2
-mul-column-pass-2 c = omega (arith, rw (← (sizes (c .before .before .before .before .before) .info-is)) at (small (c .before .before .before .before .before)), sizes (c .before .before .before .before .before))
-
-slice-aggregate-column-pass : tie.Need-slice-aggregate-column-pass
-slice-aggregate-column-pass c = search needs
-
-column-pass-requires : tie.Need-column-pass-requires
-column-pass-requires c κs =
-    let start = c .before .before .before .before .before .before in
+listed-column-requires : tie.Need-listed-column-requires
+listed-column-requires c κs =
+    let start = c .before .before .before .before in
     let a = start .args in
-    rw (sizes start .info-is) (column-asked (a .c) (a .s) (length (a .work .now)) (sizes start) (a .turn .now) (start .pre .1) _ (column-lt start) _ (listed start))
+    subst (λ (v : ℕ). Ready (a .c) (a .s) (length (a .work .now)) × Turns (a .c) (a .turn .now) × (v < codeGraph (a .c) .shape .«n_b») × ColumnList (codeGraph (a .c)) v (edges start))
+    (sym (sizes start .info-is)) (start .pre .0, start .pre .1, omega (arith, sizes start .shape), listed start)
 
 same-length : tie.Need-same-length
 same-length c = search needs
 
 returns : tie.Need-returns
 returns c =
-    let start = c .before .before .before .before .before .before .before .before .before in
+    let start = c .before .before .before .before .before .before .before in
     let a = start .args in
-    column-done (a .c) (a .s) (length (a .work .now)) (sizes start) (a .turn .now) (start .pre .1) _ (column-lt start) _
-    (listed start) (a .work .now) _
-    (subst
-    (λ (x : ℕ). Written nan (a .s .bits) (Place (a .s .bits) (x * a .c .z) (a .c .z) (edges start))
-    (sentAt (a .s .bits) (2 * a .s .bits + a .s .slots) (a .c .z) (a .turn .now) (x * a .c .z) (edges start) (a .work .now)) (a .work .now)
-    (c .before .before .column-pass .last .0))
-    (sizes start .info-is)
-    (c .before .before .column-pass .ensures))
+    subst (λ (v : ℕ). ColumnDone (codeGraph (a .c)) (a .c .z) v (a .work .now) (c .before .before .listed-column .last .1 .1 .1 .1 .1 .0)) (sizes start .info-is) (c .before .before .listed-column .ensures)
 
 pub middle-column-spec : {M : Type 1} → statement M
 middle-column-spec =
@@ -84,12 +61,9 @@ middle-column-spec =
     (tie.spec
     mul-b
     cast-b
+    add-t9
     add-t10
-    add-t11
-    mul-column-pass
-    add-column-pass
-    mul-column-pass-2
-    slice-aggregate-column-pass
-    column-pass-requires
+    slice-aggregate-listed-column
+    listed-column-requires
     same-length
     returns)
