@@ -3,9 +3,11 @@ use mathlib.Core.Path.{_≡_, refl, sym, ap, _∙_, subst}
 use mathlib.Core.List.{List}
 use Prim.Native.Nat.{ℕ, zero, suc, _+_, _%_, _-_, _<_, _≤_, min}
 use native.Mathlib.Omega.{arith}
+use native.Mathlib.Nat.{add-zero, sub-zero}
 use native.Mathlib.Decide.{decLt}
 use borrow.Author.Tests.{lt-ltb, le-ltb}
 use lib.ListN.{length, getD}
+use Rattle.laws.proofs.Written.{none}
 use Rattle.laws.proofs.Slots.{turned-low, turned-high}
 use Rattle.bits.specs.declared.sums.Part.{Part}
 use Rattle.bits.specs.Sums.{differing, byteIn, Bits, Added, AddedTurned}
@@ -54,3 +56,10 @@ module _ (at z s : ℕ) (bits : List ℕ) (part : Part) (l l₁ l₂ : List ℕ)
         at = λ t h. at-offset t h (decLt t (z - s));
         off = λ i h. U .off i (λ j p e. h (z - s + j) (omega arith) (omega arith)) ∙ W .off i (λ j p e. h j (omega arith) (omega arith));
       }
+
+-- with one bit to a column nothing is turned
+pub one-turned : (at z s : ℕ) (bits : List ℕ) (part : Part) (l l′ : List ℕ) → z ≡ 1 → s < z → part .there ≤ z → at + z ≤ length l → Bits l
+    → Added at (part .there) bits (part .from) l l′ → AddedTurned at z s bits part l l′
+one-turned at z s bits part l l′ e s-lt there-most inside is-bits W =
+    let none-high : min s (part .there) ≡ 0 = omega arith in
+    turned at z s bits part l l′ l′ s-lt there-most inside is-bits (rw (none-high, sub-zero, add-zero) W) (none (λ i p. omega arith))

@@ -16,6 +16,9 @@ pub fn rotated(t: usize, shift: usize, z: usize) -> usize
     requires { ⌜ (t < z) × (z ≤ 324) × (shift < 512) ⌝ }
     ensures { λ r. ⌜ r ≡ (t + shift) % z ⌝ }
 {
+    if z == 1 {
+        return 0;
+    }
     (t + shift) % z
 }
 

@@ -54,6 +54,16 @@ pub fn add_run(sums: &mut [u8], at: usize, bits: &[u8], from: usize, n: usize)
     }
 }
 
+// Adds the one bit of a part, where it is there: a column of a lift of 1.
+fn add_bit(sums: &mut [u8], at: usize, bits: &[u8], from: usize, there: usize)
+    requires { ⌜ (at < length (now sums)) × (there ≤ 1) × (from + there ≤ length (now bits)) ⌝ }
+    ensures { λ _. ⌜ Added at there (now (bits .entry)) from (now (sums .entry)) (now (sums .exit)) ⌝ }
+{
+    if there == 1 {
+        sums[at] = differ(sums[at], bits[from]);
+    }
+}
+
 // Adds a part of z bits, turned by s, to the z bits from `at` on: offset t gets bit (t + s) mod z of the part.
 pub fn add_turned(sums: &mut [u8], at: usize, bits: &[u8], part: Part, s: usize, z: usize)
     requires { ⌜ (at + z ≤ length (now sums)) × (s < z) × (part .there ≤ z) × (part .from + part .there ≤ length (now bits)) × Bits (now sums) ⌝ }
@@ -61,6 +71,10 @@ pub fn add_turned(sums: &mut [u8], at: usize, bits: &[u8], part: Part, s: usize,
 {
     let from = part.from;
     let there = part.there;
+    if z == 1 {
+        add_bit(sums, at, bits, from, there);
+        return;
+    }
     let high = numbers::lesser(s, there);
     add_run(sums, at, bits, from + high, there - high);
     add_run(sums, at + (z - s), bits, from, high);

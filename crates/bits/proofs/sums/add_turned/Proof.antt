@@ -1,10 +1,23 @@
--- `add_turned` meets its contract: the two runs. Assumes nothing.
+-- `add_turned` meets its contract: the one bit, or the two runs. Assumes nothing.
 use mathlib.Core.Path.{_∙_}
-use Rattle.bits.proofs.Turned.{turned}
+use Rattle.bits.proofs.Turned.{turned, one-turned}
 use native.Mathlib.Omega.{arith}
 use borrow.Author.Needs.{needs}
 use Rattle.bits.proofs.sums.add_turned.Statement.{statement}
 use Rattle.bits.proofs.sums.add_turned.Tie as tie
+
+add-bit-requires : tie.Need-add-bit-requires
+add-bit-requires c κs = search needs
+
+same-length : tie.Need-same-length
+same-length c = search needs
+
+returns : tie.Need-returns
+returns c =
+    let called = c .before .before in
+    let start = called .before .before .before .before .before in
+    one-turned (start .args .at) (start .args .z) (start .args .s) (start .args .bits .now) (start .args .part) (start .args .sums .now) (called .add-bit .last .0)
+    (called .before .before .if1 .taken) (start .pre .1) (start .pre .2) (start .pre .0) (start .pre .4) (called .add-bit .ensures)
 
 lesser-requires : tie.Need-lesser-requires
 lesser-requires c κs = search needs
@@ -25,16 +38,16 @@ add-add-run-2 : tie.Need-add-add-run-2
 add-add-run-2 c = search needs
 
 add-run-requires-2 : tie.Need-add-run-requires-2
-add-run-requires-2 c κs = omega (arith, c .before .before .before .add-run .kept .0, c .before .before .before .before .before .lesser .ensures, c .before .before .before .before .before .before .before .before .pre)
+add-run-requires-2 c κs = omega (arith, c .before .before .before .add-run .kept .0, c .before .before .before .before .before .lesser .ensures, c .before .before .before .before .before .before .before .before .before .pre)
 
-same-length : tie.Need-same-length
-same-length c = c .before .before .add-run2 .kept .0 ∙ c .before .before .before .before .before .before .add-run .kept .0
+same-length-2 : tie.Need-same-length-2
+same-length-2 c = c .before .before .add-run2 .kept .0 ∙ c .before .before .before .before .before .before .add-run .kept .0
 
-returns : tie.Need-returns
-returns c =
+returns-2 : tie.Need-returns-2
+returns-2 c =
     let called = c .before .before .before .before .before .before in
     let lesser = called .before .before .lesser .ensures in
-    let start = called .before .before .before .before .before in
+    let start = called .before .before .before .before .before .before in
     turned (start .args .at) (start .args .z) (start .args .s) (start .args .bits .now) (start .args .part) (start .args .sums .now) (called .add-run .last .0)
     (c .before .before .add-run2 .last .0) (start .pre .1) (start .pre .2) (start .pre .0) (start .pre .4)
     (rw lesser at (called .add-run .ensures)) (rw lesser at (c .before .before .add-run2 .ensures))
@@ -43,6 +56,9 @@ pub add-turned-spec : {M : Type 1} → statement M
 add-turned-spec =
     tie.close
     (tie.spec
+    add-bit-requires
+    same-length
+    returns
     lesser-requires
     add-add-run
     sub-add-run
@@ -50,5 +66,5 @@ add-turned-spec =
     sub-add-run-2
     add-add-run-2
     add-run-requires-2
-    same-length
-    returns)
+    same-length-2
+    returns-2)
