@@ -1,7 +1,7 @@
 // The base edges of a graph, and the bit that one joins to a check: 01, "Base edges".
 use tables::Shape;
 ghost use mathlib.Core.Path.{_≡_};
-ghost use Prim.Native.Nat.{_+_, _%_, _<_, _≤_};
+ghost use Prim.Native.Nat.{_+_, _*_, _%_, _<_, _≤_};
 ghost use Rattle.bits.specs.Edge.{graphIn, edgeOf, edgesIn};
 
 // A base edge: its row, its column and its shift.
@@ -22,6 +22,18 @@ pub fn rotated(t: usize, shift: usize, z: usize) -> usize
     (t + shift) % z
 }
 
+// Base edge b of a graph whose lists are lent, in an information column. `s` is here for the contract alone.
+pub fn info_edge<'a>(s: Shape, rows: &'a [u8; 153], shifts: &'a [u16; 153], b: usize) -> Edge
+    requires { ⌜ (s .«k_b» ≤ 51) × (b < 3 * s .«k_b») ⌝ }
+    ensures { λ r. ⌜ r ≡ edgeOf (graphIn s (now (rows .entry)) (now (shifts .entry))) b ⌝ }
+{
+    Edge {
+        row: numbers::wide8(rows[b]),
+        column: b / 3,
+        shift: numbers::wide16(shifts[b]),
+    }
+}
+
 // Base edge b of a graph whose lists are lent.
 pub fn edge_at<'a>(s: Shape, rows: &'a [u8; 153], shifts: &'a [u16; 153], b: usize) -> Edge
     requires { ⌜ (s .«k_b» ≤ 51) × (s .«m_b» ≤ 39) × (1 ≤ s .«m_b») × (b < edgesIn s) ⌝ }
@@ -29,11 +41,7 @@ pub fn edge_at<'a>(s: Shape, rows: &'a [u8; 153], shifts: &'a [u16; 153], b: usi
 {
     let info = 3 * s.k_b;
     if b < info {
-        return Edge {
-            row: numbers::wide8(rows[b]),
-            column: b / 3,
-            shift: numbers::wide16(shifts[b]),
-        };
+        return info_edge(s, rows, shifts, b);
     }
     let p = b - info;
     if p == 0 {

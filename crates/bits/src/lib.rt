@@ -7,6 +7,7 @@ mod words;
 
 pub use edge::Edge;
 pub use edge::edge_at;
+pub use edge::info_edge;
 pub use edge::rotated;
 pub use rows::copy_info;
 pub use rows::step_row;

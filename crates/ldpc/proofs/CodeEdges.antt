@@ -68,10 +68,13 @@ module _ (c : Code) (b : ℕ) {s : Shape} {rows shifts : List ℕ} (lent : graph
       subst (λ (x : Shape). (x .«k_b» ≤ 51) × (x .«m_b» ≤ 39) × (1 ≤ x .«m_b») × (b < edgesIn x))
       (sym (ap (λ g. g .shape) lent)) (S .info-most, S .rows-most, omega (arith, S .rows), h)
 
+  pub edge-told : {e : Edge} → e ≡ edgeOf (graphIn s rows shifts) b → e ≡ edgeOf (codeGraph c) b
+  edge-told told = told ∙ ap (λ g. edgeOf g b) lent
+
   pub edged : {e : Edge} → e ≡ edgeOf (graphIn s rows shifts) b → Edged c b e
   unfolding edgeOf
   edged told =
-      subst (Edged c b) (sym (told ∙ ap (λ g. edgeOf g b) lent))
+      subst (Edged c b) (sym (edge-told told))
       (record {
         row-is = refl;
         column-is = refl;

@@ -39,7 +39,7 @@ row-sums-requires : tie.Need-row-sums-requires
 row-sums-requires c κs =
     let shaped = c .before .before in
     let start = shaped .before .before .before in
-    (start .pre .0, omega (arith, counts shaped .all-edges), start .pre .2, start .pre .1)
+    (start .pre .0, omega (arith, ap (λ s. s .«k_b») (shape-is shaped)), omega (arith, counts shaped .all-edges), start .pre .2, start .pre .1)
 
 slice-aggregate-total-of : tie.Need-slice-aggregate-total-of
 slice-aggregate-total-of c = refl

@@ -4,6 +4,7 @@ use Prim.Native.Nat.{_*_}
 use native.Mathlib.Omega.{arith}
 use borrow.Author.Needs.{needs}
 use lib.Seq.{length-take-le, length-front}
+use Rattle.matrix.specs.Edges.{edges}
 use Rattle.bits.specs.Words.{onesIn}
 use Rattle.ldpc.proofs.Made.{Known, known}
 use Rattle.coder.specs.Sums.{sumsOf}
@@ -44,11 +45,13 @@ slice-aggregate-syndrome c =
     sym (length-take-le _ _ (rw (sizes shaped .checks) (shaped .before .before .before .pre .2)))
 
 row-sums-requires : tie.Need-row-sums-requires
+unfolding edges
 row-sums-requires c κs =
     let shaped = c .before .before .before .before .before .before in
     let start = shaped .before .before .before in
     let k = sizes shaped in (
       start .pre .0,
+      omega (arith, k .all-edges),
       omega (arith, k .all-edges),
       length-take-le _ _ (rw (k .checks) (start .pre .2)) ∙ k .checks,
       start .pre .1,

@@ -1,13 +1,13 @@
 -- `row_sums` meets its contract. The invariant: the sums over the first b edges stand. Assumes nothing.
 use mathlib.Core.Path.{_≡_, ap, _∙_, sym}
-use Prim.Native.Nat.{_-_, _≤_}
+use Prim.Native.Nat.{_*_, _-_, _≤_}
 use native.Mathlib.Omega.{arith}
 use borrow.Author.Needs.{needs}
 use lib.ListN.{length}
-use Rattle.laws.specs.Written.{tabulate}
 use Rattle.ldpc.specs.Code.{codeGraph}
+use Rattle.ldpc.proofs.Made.{sized}
 use Rattle.coder.specs.Sums.{sumsOf}
-use Rattle.coder.proofs.Summed.{length-sums, no-sums}
+use Rattle.coder.proofs.Summed.{length-sums}
 use Rattle.coder.proofs.sums.row_sums.Statement.{statement}
 use Rattle.coder.proofs.sums.row_sums.Tie as tie
 
@@ -17,23 +17,41 @@ Inv-loop c word n sums₀ s rows shifts b₀ sums b = (b ≤ n) × (sums ≡ sum
 abbrev μ-loop : tie.MeasureT-loop
 μ-loop c word n sums₀ s rows shifts b₀ sums b = n - b
 
+-- the graph, once it is made
+module _ (c : tie.After-graph-of Inv-loop μ-loop) where
+  graph-is : c .graph-of .result ≡ codeGraph (c .before .before .before .args .c)
+  unfolding codeGraph
+  graph-is = c .graph-of .ensures
+
+  info-are : c .graph-of .result .shape .«k_b» ≡ codeGraph (c .before .before .before .args .c) .shape .«k_b»
+  info-are = ap (λ g. g .shape .«k_b») graph-is
+
 graph-of-requires : tie.Need-graph-of-requires Inv-loop μ-loop
 graph-of-requires c κs = search needs
 
-clear-requires : tie.Need-clear-requires Inv-loop μ-loop
-clear-requires c κs = search needs
+info-sums-requires : tie.Need-info-sums-requires Inv-loop μ-loop
+info-sums-requires c κs =
+    let graphed = c .before .before .before .before .before .before in
+    let start = graphed .before .before .before in
+    (start .pre .0, graph-is graphed, start .pre .3, start .pre .4)
+
+mul-b : tie.Need-mul-b Inv-loop μ-loop
+mul-b c =
+    let graphed = c .before .before .before .before .before .before .before .before .before .before in
+    let start = graphed .before .before .before in
+    omega (arith, info-are graphed, sized (start .args .c) (start .pre .0) .shape .info-most)
 
 loop-holds : tie.Need-loop-holds Inv-loop μ-loop
 loop-holds c =
-    let start = c .before .before .before .before .before .before .before .before .before .before in
-    (omega arith, c .before .before .clear .ensures ∙ ap (tabulate (λ i. 0)) (start .pre .2) ∙ no-sums (start .args .c) (start .args .word .now))
+    let graphed = c .before .before .before .before .before .before .before .before .before .before in
+    (omega (arith, info-are graphed, graphed .before .before .before .pre .1), c .before .before .before .info-sums .ensures)
 
-add-edge-requires : tie.Need-add-edge-requires Inv-loop μ-loop
-unfolding codeGraph
-add-edge-requires c κs =
-    let start = c .before .before .before .before .before .before .before .before .before .before .before .before .before .before .before in
+add-next-requires : tie.Need-add-next-requires Inv-loop μ-loop
+add-next-requires c κs =
     let at-loop = c .before .before .before .before in
-    (start .pre .0, c .before .before .before .before .before .before .before .before .before .before .before .before .graph-of .ensures, omega (arith, start .pre .1, c .before .before .before .loop-test .taken), start .pre .3, at-loop .loop .inv .1)
+    let graphed = at-loop .before .before .before .before .before .before .before .before .before .before .before in
+    let start = graphed .before .before .before in
+    (start .pre .0, graph-is graphed, omega (arith, start .pre .2, c .before .before .before .loop-test .taken), start .pre .4, at-loop .loop .inv .1)
 
 add-b : tie.Need-add-b Inv-loop μ-loop
 add-b c = omega arith
@@ -42,16 +60,16 @@ loop-less : tie.Need-loop-less Inv-loop μ-loop
 loop-less c = omega arith
 
 loop-again : tie.Need-loop-again Inv-loop μ-loop
-loop-again c = (omega arith, c .before .before .add-edge .ensures)
+loop-again c = (omega arith, c .before .before .add-next .ensures)
 
 same-length : tie.Need-same-length Inv-loop μ-loop
 same-length c =
-    let start = c .before .before .before .before .before .before .before .before .before .before .before .before in
-    ap length (c .before .loop .inv .1) ∙ length-sums (start .args .c) (start .args .word .now) (c .before .loop .b) ∙ sym (start .pre .2)
+    let start = c .before .before .before .before .before .before .before .before .before .before .before .before .before .before .before in
+    ap length (c .before .loop .inv .1) ∙ length-sums (start .args .c) (start .args .word .now) (c .before .loop .b) ∙ sym (start .pre .3)
 
 returns : tie.Need-returns Inv-loop μ-loop
 returns c =
-    let start = c .before .before .before .before .before .before .before .before .before .before .before .before in
+    let start = c .before .before .before .before .before .before .before .before .before .before .before .before .before .before .before in
     c .before .loop .inv .1 ∙ ap (sumsOf (start .args .c) (start .args .word .now)) (omega arith)
 
 pub row-sums-spec : {M : Type 1} → statement M
@@ -61,9 +79,10 @@ row-sums-spec =
     Inv-loop
     μ-loop
     graph-of-requires
-    clear-requires
+    info-sums-requires
+    mul-b
     loop-holds
-    add-edge-requires
+    add-next-requires
     add-b
     loop-less
     loop-again
