@@ -1,5 +1,5 @@
 // What codes do with no code at hand: runs of bits that are bytes, added and turned; the bytes of a word; base edges as
-// records. What a function requires, its callers in ldpc, coder and lists meet. Assumes nothing else.
+// records. What a function requires, its callers meet, in the crates of codes above. Assumes nothing else.
 mod edge;
 mod rows;
 mod sums;

@@ -17,8 +17,8 @@ use Rattle.ldpc.specs.Choice.{made}
 use Rattle.ldpc.specs.Code.{codeGraph, infoEnd, checksOf}
 use Rattle.ldpc.proofs.Made.{sized}
 use Rattle.coder.specs.Calls.{encodingOf}
-use Rattle.coder.specs.Stairs.{stairBit, stairs}
-use Rattle.coder.proofs.Staired.{length-stairs, stair-at}
+use Rattle.stairs.specs.Stairs.{stairBit, stairs}
+use Rattle.stairs.proofs.Staired.{length-stairs, stair-at}
 
 module _ (c : Code) (m : made c ≡ true) (info : List ℕ) where
   pub encoded-length : length (encodingOf c info) ≡ c .«n_tx»

@@ -2,7 +2,6 @@
 // Whatever a call refuses it leaves as it was. Assumes nothing.
 mod encoding;
 mod members;
-mod sums;
 
 pub use encoding::encode;
 pub use members::check_members;

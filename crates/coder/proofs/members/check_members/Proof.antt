@@ -18,7 +18,7 @@ use Rattle.ldpc.specs.Choice.{made, ifMade}
 use Rattle.ldpc.specs.Code.{codeGraph, checksOf}
 use Rattle.ldpc.proofs.Made.{Sized, sized}
 use Rattle.coder.specs.Calls.{codeMembers, listed, listWritten}
-use Rattle.coder.specs.Members.{isMember, memberPlace}
+use Rattle.check_lists.specs.Members.{isMember, memberPlace}
 use Rattle.coder.proofs.members.check_members.Statement.{statement}
 use Rattle.coder.proofs.members.check_members.Tie as tie
 

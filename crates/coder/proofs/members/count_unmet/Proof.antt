@@ -7,8 +7,8 @@ use lib.Seq.{length-take-le, length-front}
 use Rattle.matrix.specs.Edges.{edges}
 use Rattle.bits.specs.Words.{onesIn}
 use Rattle.ldpc.proofs.Made.{Known, known}
-use Rattle.coder.specs.Sums.{sumsOf}
-use Rattle.coder.proofs.Summed.{ones-unmet}
+use Rattle.edge_sums.specs.Sums.{sumsOf}
+use Rattle.coder.proofs.Unmet.{ones-unmet}
 use Rattle.coder.proofs.members.count_unmet.Statement.{statement}
 use Rattle.coder.proofs.members.count_unmet.Tie as tie
 

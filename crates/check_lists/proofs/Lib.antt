@@ -1,0 +1,2 @@
+-- The laws of a check's members, edge by edge. Assumes nothing.
+pub mod Member

@@ -1,0 +1,2 @@
+-- The terms of the loops that find a check's members. Assumes nothing.
+pub mod Members

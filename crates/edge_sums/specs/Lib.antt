@@ -1,0 +1,2 @@
+-- The terms of the sums over the base edges of a code. Assumes nothing.
+pub mod Sums

@@ -1,0 +1,2 @@
+-- The laws of the parity part, row by row. Assumes nothing.
+pub mod Staired
