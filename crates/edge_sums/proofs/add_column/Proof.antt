@@ -1,6 +1,6 @@
 -- `add_column` meets its contract. The invariant: the sums over the first b edges stand. Assumes nothing.
 use mathlib.Core.Path.{_≡_, ap, _∙_, sym, subst}
-use Prim.Native.Nat.{ℕ, _+_, _*_, _/_, _-_, _<_, _≤_}
+use Prim.Native.Nat.{ℕ, _*_, _/_, _-_, _<_, _≤_}
 use native.Mathlib.Omega.{arith}
 use lib.ListN.{length}
 use Rattle.matrix.specs.Edges.{edges}

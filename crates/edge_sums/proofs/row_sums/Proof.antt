@@ -1,6 +1,6 @@
 -- `row_sums` meets its contract. The invariant: the sums over the first b edges stand. Assumes nothing.
 use mathlib.Core.Path.{_≡_, ap, _∙_, sym}
-use Prim.Native.Nat.{_*_, _-_, _≤_}
+use Prim.Native.Nat.{_-_, _≤_}
 use native.Mathlib.Omega.{arith}
 use borrow.Author.Needs.{needs}
 use lib.ListN.{length}
