@@ -67,7 +67,8 @@ const FIRST_COLUMN: [usize; 18] = [
     317,
 ];
 
-fn graph_number(rate: usize, family: usize) -> usize
+// The number of the graph of a rate and a family, below 18.
+pub fn graph_number(rate: usize, family: usize) -> usize
     ensures { λ r. ⌜ r ≡ graphNumber rate family ⌝ }
 {
     6 * numbers::lesser(family, 2) + numbers::lesser(rate, 5)
