@@ -2,12 +2,3 @@
 pub mod Refused
 pub mod Steps
 pub mod Called
-pub mod Started
-pub mod Whole
-pub mod Cases
-pub mod Claim
-pub mod Clean
-pub mod Regions
-pub mod Noiseless
-pub mod Anywhere
-pub mod Ending

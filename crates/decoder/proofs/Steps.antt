@@ -13,7 +13,9 @@ use Rattle.messages.specs.Iteration.{iteration, settled}
 use Rattle.ldpc.specs.declared.choice.Code.{Code}
 use Rattle.ldpc.specs.Code.{codeGraph}
 use Rattle.decoder.specs.declared.record.Decode.{Decode}
-use Rattle.decoder.specs.Decoding.{alpha, startMemory, iterated, unbroken, recordOf, progressOf, wordOf, resultOf}
+use Rattle.channel.specs.Channel.{startMemory}
+use Rattle.word.specs.Word.{wordOf}
+use Rattle.decoder.specs.Decoding.{alpha, iterated, unbroken, recordOf, progressOf, resultOf}
 use Rattle.decoder.specs.Runs.{Reached}
 
 -- a memory and so many iterations done

@@ -35,11 +35,11 @@ fn decode_by(c: Code, rx: &[f32], limit: u16, work: &mut [f32], out: &mut [u8]) 
         return ReadOut::Refused(Refusal::Output(out.len(), n_tx));
     }
     let s = minsum::sizes_of(c);
-    let needed = crate::start::work_needed(c, s);
+    let needed = channel::work_needed(c, s);
     if work.len() < needed {
         return ReadOut::Refused(Refusal::Work(work.len(), needed));
     }
-    crate::start::begin(c, s, rx, work);
+    channel::begin(c, s, rx, work);
     let fresh = Decode {
         code: c,
         iterations: 0,

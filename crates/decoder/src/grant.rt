@@ -77,7 +77,7 @@ impl Decode {
             return Granted::Refused(Refusal::Record(c.rate, c.n_tx));
         }
         let s = minsum::sizes_of(c);
-        let needed = crate::start::work_needed(c, s);
+        let needed = channel::work_needed(c, s);
         if work.len() < needed {
             return Granted::Refused(Refusal::Work(work.len(), needed));
         }

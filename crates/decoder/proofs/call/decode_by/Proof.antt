@@ -4,7 +4,7 @@ use native.Mathlib.Omega.{arith}
 use borrow.Author.Needs.{needs}
 use lib.ListN.{length}
 use Rattle.refusals.proofs.Lengths.{length-passed, length-refused}
-use Rattle.decoder.proofs.Started.{ready}
+use Rattle.channel.proofs.Started.{ready}
 use Rattle.decoder.specs.Calls.{decodedBy, memoryBy, writtenBy}
 use Rattle.refusals.specs.Told.{gave}
 use Rattle.decoder.proofs.Steps.{one-run}

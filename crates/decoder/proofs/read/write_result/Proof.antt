@@ -2,7 +2,7 @@
 use mathlib.Core.Path.{sym, subst}
 use borrow.Author.Needs.{needs}
 use Rattle.bits.specs.Sums.{Bits}
-use Rattle.decoder.proofs.Clean.{word-bits}
+use Rattle.word.proofs.Word.{word-bits}
 use Rattle.decoder.specs.Decoding.{progressOf, resultOf}
 use Rattle.decoder.proofs.read.write_result.Statement.{statement}
 use Rattle.decoder.proofs.read.write_result.Tie as tie

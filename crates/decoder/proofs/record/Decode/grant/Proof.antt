@@ -11,7 +11,7 @@ use Rattle.decoder.proofs.Refused.{work-passed, work-refused, sum-passe
 use Rattle.ldpc.proofs.Refused.{made-passed, made-refused}
 use Rattle.ldpc.specs.Choice.{made}
 use Rattle.decoder.specs.Calls.{grantTold, grantWritten}
-use Rattle.decoder.proofs.Started.{ready}
+use Rattle.channel.proofs.Started.{ready}
 use Rattle.decoder.proofs.record.Decode.grant.Tie as tie
 use Rattle.decoder.proofs.record.Decode.grant.Statement.{statement}
 

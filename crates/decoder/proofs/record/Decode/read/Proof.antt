@@ -6,7 +6,7 @@ use borrow.Author.Needs.{needs}
 use lib.ListN.{length}
 use borrow.Author.Tests.{not-true, not-false}
 use Rattle.ldpc.specs.Choice.{made}
-use Rattle.decoder.proofs.Started.{ready}
+use Rattle.channel.proofs.Started.{ready}
 use Rattle.refusals.proofs.Lengths.{length-passed, length-refused}
 use Rattle.ldpc.proofs.Refused.{made-passed, made-refused}
 use Rattle.decoder.specs.Calls.{readTold, readWritten}
