@@ -41,7 +41,8 @@ use Rattle.coder.proofs.Theorems.{codeword}
 use Rattle.claims.proofs.Regions.{length-all, sent-at, channel-at}
 use Rattle.channel.specs.Channel.{certain, channelOf, startMemory}
 use Rattle.word.specs.Word.{wordOf}
-use Rattle.decoder.specs.Decoding.{alpha, iterated, unbroken, resultOf}
+use Rattle.runs.specs.Runs.{alpha, iterated}
+use Rattle.decoder.specs.Decoding.{unbroken, resultOf}
 
 -- ---- the code's constants
 pub alpha-positive : Factor alpha

@@ -30,7 +30,8 @@ use Rattle.ldpc.proofs.Made.{sized}
 use Rattle.ldpc.proofs.CodeEdges.{code-simple}
 use Rattle.channel.specs.Channel.{channelOf, startMemory}
 use Rattle.word.specs.Word.{wordOf}
-use Rattle.decoder.specs.Decoding.{iterated, unbroken}
+use Rattle.runs.specs.Runs.{iterated}
+use Rattle.decoder.specs.Decoding.{unbroken}
 
 -- no iteration done yet
 abbrev fresh : List Float → Progress (List Float)

@@ -1,4 +1,4 @@
 -- The laws of decoding in grants. Assumes nothing.
 pub mod Refused
-pub mod Steps
+pub mod Runs
 pub mod Called

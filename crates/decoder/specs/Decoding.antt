@@ -1,27 +1,17 @@
--- Iterations, the unbroken decode and what a read tells: 01, "Grant", "Unbroken decode", "Read". Assumes nothing.
+-- The unbroken decode, and what a read tells: 01, "Unbroken decode", "Read". Assumes nothing.
 use mathlib.Core.Bool.{false, _&&_}
 use mathlib.Core.List.{List}
 use Prim.Native.Nat.{ℕ}
 use lib.Dec.{eqb}
-use lib.IntN.{negsuc}
-use lib.Ieee.{Float, fin}
-use Rattle.laws.specs.Run.{Progress, run}
-use Rattle.messages.specs.Iteration.{iteration, settled}
+use lib.Ieee.{Float}
+use Rattle.laws.specs.Run.{Progress}
 use Rattle.ldpc.specs.declared.choice.Code.{Code}
-use Rattle.ldpc.specs.Code.{codeGraph}
 use Rattle.coder.specs.Calls.{unsatisfiedOf}
 use Rattle.channel.specs.Channel.{startMemory}
 use Rattle.word.specs.Word.{wordOf}
+use Rattle.runs.specs.Runs.{iterated}
 use Rattle.decoder.specs.declared.record.Decode.{Decode}
 use Rattle.decoder.specs.declared.record.DecodeResult.{DecodeResult}
-
--- the code's own factor, 0.75
-abbrev pub alpha : Float
-alpha = fin false 3 (negsuc 1)
-
--- at most n iterations more, with a factor
-unfoldable pub iterated : Float → Code → ℕ → Progress (List Float) → Progress (List Float)
-iterated factor c n p = run (λ i. iteration factor (codeGraph c) (c .z)) (settled (codeGraph c) (c .z)) n p
 
 -- 01, "Unbroken decode": of a code, readings and a limit, in a memory w
 unfoldable pub unbroken : Float → Code → List Float → List Float → ℕ → Progress (List Float)

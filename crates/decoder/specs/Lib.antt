@@ -1,4 +1,3 @@
 -- The decode record, and what its calls tell and write. Assumes nothing.
 pub mod Decoding
 pub mod Calls
-pub mod Runs

@@ -1,9 +1,10 @@
 // The one call: Choice, Start, one grant of the limit, and Read.
-use crate::record::Decode;
+use crate::record::DecodeResult;
 use crate::record::ReadOut;
 use ldpc::Choice;
 use ldpc::Code;
 use refusals::Refusal;
+use runs::Reach;
 ghost use mathlib.Core.Path.{_≡_};
 ghost use mathlib.Core.Bool.{true};
 ghost use lib.ListN.{length};
@@ -40,13 +41,16 @@ fn decode_by(c: Code, rx: &[f32], limit: u16, work: &mut [f32], out: &mut [u8]) 
         return ReadOut::Refused(Refusal::Work(work.len(), needed));
     }
     channel::begin(c, s, rx, work);
-    let fresh = Decode {
-        code: c,
+    let fresh = Reach {
         iterations: 0,
         converged: false,
     };
-    let d = crate::grant::go_on(fresh, s, limit, work);
-    ReadOut::Result(crate::read::write_result(d, s, work, out))
+    let r = runs::go_on(c, s, fresh, limit, work);
+    ReadOut::Result(DecodeResult {
+        iterations: r.iterations,
+        converged: r.converged,
+        clean: word::read(c, s, r.converged, work, out),
+    })
 }
 
 // Decodes n_tx readings at a rate in at most `limit` iterations.

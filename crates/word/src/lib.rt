@@ -37,7 +37,7 @@ fn decide(work: &[f32], at: usize, n: usize, out: &mut [u8], to: usize)
 }
 
 // The word: the information's decisions, then parity's, which begin past the shortened bits.
-pub fn write_word(c: Code, s: Sizes, work: &[f32], out: &mut [u8])
+fn write_word(c: Code, s: Sizes, work: &[f32], out: &mut [u8])
     requires { ⌜ Ready c s (length (now work)) × (length (now out) ≡ c .«n_tx») ⌝ }
     ensures { λ _. ⌜ now (out .exit) ≡ wordOf c (now (work .entry)) ⌝ }
 {
@@ -48,7 +48,7 @@ pub fn write_word(c: Code, s: Sizes, work: &[f32], out: &mut [u8])
 }
 
 // Whether a decode that converged has written a codeword.
-pub fn is_clean(c: Code, converged: bool, word: &[u8]) -> bool
+fn is_clean(c: Code, converged: bool, word: &[u8]) -> bool
     requires { ⌜ (made c ≡ true) × Bits (now word) ⌝ }
     ensures { λ r. ⌜ r ≡ (converged && eqb (unsatisfiedOf c (now (word .entry))) 0) ⌝ }
 {
@@ -56,4 +56,14 @@ pub fn is_clean(c: Code, converged: bool, word: &[u8]) -> bool
         return coder::unmet_checks(c, word) == 0;
     }
     false
+}
+
+// Writes the word, and tells whether it is clean.
+pub fn read(c: Code, s: Sizes, converged: bool, work: &[f32], out: &mut [u8]) -> bool
+    requires { ⌜ Ready c s (length (now work)) × (length (now out) ≡ c .«n_tx») ⌝ }
+    ensures { λ r. ⌜ r ≡ (converged && eqb (unsatisfiedOf c (wordOf c (now (work .entry)))) 0) ⌝ }
+    ensures { λ _. ⌜ now (out .exit) ≡ wordOf c (now (work .entry)) ⌝ }
+{
+    write_word(c, s, work, out);
+    is_clean(c, converged, out)
 }

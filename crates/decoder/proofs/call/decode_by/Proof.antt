@@ -5,9 +5,10 @@ use borrow.Author.Needs.{needs}
 use lib.ListN.{length}
 use Rattle.refusals.proofs.Lengths.{length-passed, length-refused}
 use Rattle.channel.proofs.Started.{ready}
+use Rattle.word.specs.Word.{wordOf}
 use Rattle.decoder.specs.Calls.{decodedBy, memoryBy, writtenBy}
 use Rattle.refusals.specs.Told.{gave}
-use Rattle.decoder.proofs.Steps.{one-run}
+use Rattle.decoder.proofs.Runs.{telling, one-run}
 use Rattle.decoder.proofs.Refused.{work-passed, work-refused}
 use Rattle.minsum.specs.Lent.{Ready}
 use Rattle.minsum.proofs.Lent.{ready-still}
@@ -60,17 +61,13 @@ go-on-requires c κs =
     (c .before .before .before .before .before .before .work-needed .ensures) (omega (arith, c .before .before .before .before .before .if3 .left)) in
     (ready-still R (c .before .before .before .begin .kept .1 .1 .1 .0), omega arith)
 
-write-result-requires : tie.Need-write-result-requires
-write-result-requires c κs =
+read-requires : tie.Need-read-requires
+read-requires c κs =
     let start = c .before .before .before .before .before .before .before .before .before .before .before .before .before .before .before .before .before .before in
     let s = c .before .before .before .before .before .before .before .before .before .before .before .before .sizes-of .result in
     let R = ready (start .args .c) s (c .before .before .before .before .before .before .before .before .before .before .before .work-needed .result) (length (start .args .work .now)) (start .pre) (c .before .before .before .before .before .before .before .before .before .before .before .before .sizes-of .ensures)
     (c .before .before .before .before .before .before .before .before .before .before .before .work-needed .ensures) (omega (arith, c .before .before .before .before .before .before .before .before .before .before .if3 .left)) in
-    let O = one-run (start .args .c) (start .args .rx .now) (start .args .work .now) _ _ (start .args .limit) (c .before .before .before .before .go-on .result) (c .before .before .before .before .before .before .before .before .begin .ensures) (c .before .before .before .before .go-on .ensures) in
-    let e = sym (O .code-is) in (
-      subst (λ x. Ready x s (length (c .before .before .before .before .go-on .last .1 .1 .1 .0))) e (ready-still R (c .before .before .before .before .go-on .kept .1 .1 .1 .0 ∙ c .before .before .before .before .before .before .before .before .begin .kept .1 .1 .1 .0)),
-      subst (λ x. length (start .args .out .now) ≡ x .«n_tx») e (c .before .before .before .before .before .before .before .before .before .before .before .before .before .if2 .left),
-    )
+    (ready-still R (c .before .before .before .before .go-on .kept .1 .1 .1 .1 .0 ∙ c .before .before .before .before .before .before .before .before .begin .kept .1 .1 .1 .0), c .before .before .before .before .before .before .before .before .before .before .before .before .before .if2 .left)
 
 same-length : tie.Need-same-length
 same-length c = search needs
@@ -84,11 +81,11 @@ returns-4 c =
     let start = c .before .before .before .before .before .before .before .before .before .before .before .before .before .before .before .before .before .before .before .before .before in
     let O = one-run (start .args .c) (start .args .rx .now) (start .args .work .now) _ _ (start .args .limit) (c .before .before .before .before .before .before .before .go-on .result) (c .before .before .before .before .before .before .before .before .before .before .before .begin .ensures) (c .before .before .before .before .before .before .before .go-on .ensures) in
     let k = c .before .before .before .before .before .before .before .before .before .before .before .before .before .before .work-needed .ensures in
-    let W = c .before .before .write-result .ensures in
+    let W = c .before .before .read .ensures in
     let e = length-passed _ 5 (length (start .args .rx .now)) (start .args .c .«n_tx») (c .before .before .before .before .before .before .before .before .before .before .before .before .before .before .before .before .before .if1 .left)
     ∙ length-passed _ 9 (length (start .args .out .now)) (start .args .c .«n_tx») (c .before .before .before .before .before .before .before .before .before .before .before .before .before .before .before .before .if2 .left)
     ∙ work-passed _ (start .args .c) (length (start .args .work .now)) (omega (arith, k, c .before .before .before .before .before .before .before .before .before .before .before .before .before .if3 .left)) in
-    (ap gave (W .0 ∙ O .result-is) ∙ sym e, (rw e (O .memory-is), rw e (W .1 ∙ O .word-is)))
+    (ap gave (ap (telling (c .before .before .before .before .before .before .before .go-on .result)) (W .0) ∙ O .result-is) ∙ sym e, (rw e (O .memory-is), rw e (W .1 ∙ ap (wordOf (start .args .c)) (O .memory-is))))
 
 pub decode-by-spec : {M : Type 1} → statement M
 decode-by-spec =
@@ -101,7 +98,7 @@ decode-by-spec =
     returns-3
     begin-requires
     go-on-requires
-    write-result-requires
+    read-requires
     same-length
     same-length-2
     returns-4)

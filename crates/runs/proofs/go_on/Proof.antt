@@ -2,22 +2,22 @@
 use mathlib.Core.Path.{_≡_, sym, ap, subst}
 use lib.ListN.{length}
 use borrow.Author.Needs.{needs}
-use Rattle.decoder.proofs.Steps.{stays}
+use Rattle.runs.proofs.Steps.{stays}
 use Rattle.laws.proofs.Written.{length-tabulate}
 use Rattle.ldpc.specs.declared.choice.Code.{Code}
 use Rattle.lists.specs.Lists.{listsOf}
 use Rattle.lists.specs.Sorting.{sortedOf}
 use Rattle.lists.proofs.ColumnSorted.{column-sorted}
 use Rattle.minsum.specs.Lent.{Sorted}
-use Rattle.decoder.proofs.grant.go_on.Tie as tie
-use Rattle.decoder.proofs.grant.go_on.Statement.{statement}
+use Rattle.runs.proofs.go_on.Tie as tie
+use Rattle.runs.proofs.go_on.Statement.{statement}
 
 length-sorted : (c : Code) → length (listsOf c .sorted) ≡ 153
 unfolding listsOf sortedOf
 length-sorted c = length-tabulate _ 153
 
 returns : tie.Need-returns
-returns c = let start = c .before .before in stays (start .args .d) (start .args .g) (start .args .work .now) (c .if1 .taken)
+returns c = let start = c .before .before in stays (start .args .c) (start .args .from) (start .args .g) (start .args .work .now) (c .if1 .taken)
 
 lists-of-requires : tie.Need-lists-of-requires
 lists-of-requires c κs = search needs
@@ -43,7 +43,7 @@ iterations-requires c κs =
     let start = c .before .before .before .before .before .before .before .before .before .before .before .before .before .before in
     let e = c .before .before .before .before .before .before .before .before .before .before .before .lists-of .ensures in
     let m = start .pre .0 .is-made in
-    let sorted = subst (Sorted (start .args .d .code)) (sym (ap (λ l. l .sorted) e)) (length-sorted (start .args .d .code), λ v h. column-sorted (start .args .d .code) m v h) in
+    let sorted = subst (Sorted (start .args .c)) (sym (ap (λ l. l .sorted) e)) (length-sorted (start .args .c), λ v h. column-sorted (start .args .c) m v h) in
     ((start .pre .0, (ap (λ l. l .order) e, ap (λ l. l .start) e), (ap (λ l. l .column) e, ap (λ l. l .turn) e), sorted), (c .before .before .before .before .before .before .before .before .before .before .before .before .if1 .left, start .pre .1))
 
 same-length : tie.Need-same-length
