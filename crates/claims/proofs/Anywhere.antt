@@ -20,8 +20,8 @@ use Rattle.decoder.specs.declared.record.Decode.{Decode}
 use Rattle.decoder.specs.declared.record.DecodeResult.{DecodeResult}
 use Rattle.channel.specs.Channel.{channelOf, startMemory}
 use Rattle.word.specs.Word.{wordOf}
-use Rattle.runs.specs.Runs.{iterated}
-use Rattle.decoder.specs.Decoding.{unbroken, recordOf, resultOf}
+use Rattle.runs.specs.Runs.{iterated, unbroken}
+use Rattle.decoder.specs.Decoding.{recordOf, resultOf}
 use Rattle.claims.proofs.Regions.{any-memory, length-all}
 use Rattle.claims.proofs.Whole.{iterated-lent, iterated-long, word-lent}
 

@@ -23,8 +23,8 @@ use Rattle.decoder.specs.declared.record.Decode.{Decode}
 use Rattle.decoder.specs.declared.record.DecodeResult.{DecodeResult}
 use Rattle.channel.specs.Channel.{startMemory}
 use Rattle.word.specs.Word.{wordOf}
-use Rattle.runs.specs.Runs.{alpha, iterated}
-use Rattle.decoder.specs.Decoding.{unbroken, recordOf, progressOf, resultOf}
+use Rattle.runs.specs.Runs.{alpha, iterated, unbroken}
+use Rattle.decoder.specs.Decoding.{recordOf, progressOf, resultOf}
 use Rattle.decoder.specs.Calls.{ifWork, ifSum, startTold, startWritten, grantTold, grantWritten, readTold, readWritten, decodedBy, memoryBy, writtenBy, decodeTold, decodeMemory, decodeWritten}
 use Rattle.claims.specs.Claim.{Call, grant, read, granted, readOut, Held, returned, begun, answerOf, heldAfter, answers, afterAll, owedGrant, owedRead, owedAnswer, sumAfter, owed, sumOf, heldAt}
 use Rattle.claims.proofs.Whole.{start-front, unbroken-add, unbroken-front, iterated-lent, word-lent}

@@ -17,8 +17,8 @@ use Rattle.coder.specs.Calls.{encodingOf}
 use Rattle.decoder.specs.declared.record.Decode.{Decode}
 use Rattle.decoder.specs.declared.record.DecodeResult.{DecodeResult}
 use Rattle.word.specs.Word.{wordOf}
-use Rattle.runs.specs.Runs.{alpha}
-use Rattle.decoder.specs.Decoding.{unbroken, resultOf}
+use Rattle.runs.specs.Runs.{alpha, unbroken}
+use Rattle.decoder.specs.Decoding.{resultOf}
 use Rattle.decoder.specs.Calls.{startTold}
 use Rattle.claims.specs.Claim.{Call, read, readOut, begun, answerOf, afterAll, owedRead, owedAnswer, sumOf}
 use Rattle.claims.proofs.Cases.{length-cases, work-cases, never}

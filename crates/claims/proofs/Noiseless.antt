@@ -41,8 +41,8 @@ use Rattle.coder.proofs.Theorems.{codeword}
 use Rattle.claims.proofs.Regions.{length-all, sent-at, channel-at}
 use Rattle.channel.specs.Channel.{certain, channelOf, startMemory}
 use Rattle.word.specs.Word.{wordOf}
-use Rattle.runs.specs.Runs.{alpha, iterated}
-use Rattle.decoder.specs.Decoding.{unbroken, resultOf}
+use Rattle.runs.specs.Runs.{alpha, iterated, unbroken}
+use Rattle.decoder.specs.Decoding.{resultOf}
 
 -- ---- the code's constants
 pub alpha-positive : Factor alpha

@@ -30,8 +30,7 @@ use Rattle.ldpc.proofs.Made.{sized}
 use Rattle.ldpc.proofs.CodeEdges.{code-simple}
 use Rattle.channel.specs.Channel.{channelOf, startMemory}
 use Rattle.word.specs.Word.{wordOf}
-use Rattle.runs.specs.Runs.{iterated}
-use Rattle.decoder.specs.Decoding.{unbroken}
+use Rattle.runs.specs.Runs.{iterated, unbroken}
 
 -- no iteration done yet
 abbrev fresh : List Float → Progress (List Float)

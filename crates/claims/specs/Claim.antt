@@ -8,8 +8,8 @@ use Rattle.ldpc.specs.declared.choice.Code.{Code}
 use Rattle.decoder.specs.declared.record.Decode.{Decode}
 use Rattle.decoder.specs.declared.record.DecodeResult.{DecodeResult}
 use Rattle.word.specs.Word.{wordOf}
-use Rattle.runs.specs.Runs.{alpha}
-use Rattle.decoder.specs.Decoding.{unbroken, recordOf, resultOf}
+use Rattle.runs.specs.Runs.{alpha, unbroken}
+use Rattle.decoder.specs.Decoding.{recordOf, resultOf}
 use Rattle.decoder.specs.Calls.{ifWork, ifSum, startWritten, grantTold, grantWritten, readTold, readWritten}
 
 -- a grant of g, or a read into an output, lent the first numbers of the work memory

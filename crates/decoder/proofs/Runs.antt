@@ -1,19 +1,19 @@
--- What a run reaches, by the definitions of the calls: of a grant, and of the one call. Assumes nothing.
-use mathlib.Core.Path.{_≡_, refl, ap, ap₂, _∙_}
-use mathlib.Core.Bool.{Bool, false, _&&_}
+-- What a run reaches, by the definitions of the calls: the record of a grant, and what a read tells. Assumes nothing.
+use mathlib.Core.Path.{_≡_, refl, ap, ap₂}
+use mathlib.Core.Bool.{Bool, _&&_}
 use mathlib.Core.List.{List}
 use Prim.Native.Nat.{ℕ}
 use lib.Dec.{eqb}
 use lib.Ieee.{Float}
+use Rattle.laws.specs.Run.{Progress}
 use Rattle.ldpc.specs.declared.choice.Code.{Code}
 use Rattle.coder.specs.Calls.{unsatisfiedOf}
-use Rattle.channel.specs.Channel.{startMemory}
 use Rattle.word.specs.Word.{wordOf}
 use Rattle.runs.specs.declared.Reach.{Reach}
 use Rattle.runs.specs.Runs.{alpha, iterated, reachOf, reachedIn, Reached}
 use Rattle.decoder.specs.declared.record.Decode.{Decode}
 use Rattle.decoder.specs.declared.record.DecodeResult.{DecodeResult}
-use Rattle.decoder.specs.Decoding.{unbroken, recordOf, progressOf, resultOf}
+use Rattle.decoder.specs.Decoding.{recordOf, progressOf, resultOf}
 
 -- where a decode stands, and the record of it when a run of its code got so far
 abbrev pub standing : Decode → Reach
@@ -43,17 +43,8 @@ pub read-result : (d : Decode) (w : List Float)
 unfolding resultOf progressOf
 read-result d w = refl
 
--- a start and one grant are the unbroken decode
-pub record OneRun (c : Code) (rx w : List Float) (limit : ℕ) (r : Reach) (w′ : List Float) : Type 0 where
-  pub result-is : telling r (isClean c (r .converged) w′) ≡ resultOf c (unbroken alpha c rx w limit)
-  pub memory-is : w′ ≡ unbroken alpha c rx w limit .memory
-
-pub one-run : (c : Code) (rx w w₁ w₂ : List Float) (limit : ℕ) (r : Reach) → w₁ ≡ startMemory c rx w
-    → Reached c (record { iterations = 0; converged = false }) limit w₁ r w₂ → OneRun c rx w limit r w₂
-unfolding unbroken resultOf reachOf reachedIn
-one-run c rx w w₁ w₂ limit r e R =
-    let p = unbroken alpha c rx w limit in
-    let k : iterated alpha c limit (reachedIn (record { iterations = 0; converged = false }) w₁) ≡ p
-    = ap (λ x. iterated alpha c limit (reachedIn (record { iterations = 0; converged = false }) x)) e in
-    let left : w₂ ≡ p .memory = R .left ∙ ap (λ x. x .memory) k in
-    record { result-is = ap₂ (λ (x : Reach) v. telling x (isClean c (x .converged) v)) (R .told ∙ ap reachOf k) left; memory-is = left }
+-- the same of the unbroken decode
+pub unbroken-result : (c : Code) (p : Progress (List Float)) (r : Reach) (w : List Float) → r ≡ reachOf p → w ≡ p .memory
+    → telling r (isClean c (r .converged) w) ≡ resultOf c p
+unfolding resultOf reachOf
+unbroken-result c p r w e k = ap₂ (λ (x : Reach) v. telling x (isClean c (x .converged) v)) e k

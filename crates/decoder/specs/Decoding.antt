@@ -1,21 +1,14 @@
--- The unbroken decode, and what a read tells: 01, "Unbroken decode", "Read". Assumes nothing.
-use mathlib.Core.Bool.{false, _&&_}
+-- The decode record and the run that it stands for, and what a read tells: 01, "Read". Assumes nothing.
+use mathlib.Core.Bool.{_&&_}
 use mathlib.Core.List.{List}
-use Prim.Native.Nat.{ℕ}
 use lib.Dec.{eqb}
 use lib.Ieee.{Float}
 use Rattle.laws.specs.Run.{Progress}
 use Rattle.ldpc.specs.declared.choice.Code.{Code}
 use Rattle.coder.specs.Calls.{unsatisfiedOf}
-use Rattle.channel.specs.Channel.{startMemory}
 use Rattle.word.specs.Word.{wordOf}
-use Rattle.runs.specs.Runs.{iterated}
 use Rattle.decoder.specs.declared.record.Decode.{Decode}
 use Rattle.decoder.specs.declared.record.DecodeResult.{DecodeResult}
-
--- 01, "Unbroken decode": of a code, readings and a limit, in a memory w
-unfoldable pub unbroken : Float → Code → List Float → List Float → ℕ → Progress (List Float)
-unbroken factor c rx w n = iterated factor c n (record { memory = startMemory c rx w; iterations = 0; converged = false })
 
 -- the record of a decode that has got so far, and how far a record and its memory have got
 unfoldable pub recordOf : Code → Progress (List Float) → Decode

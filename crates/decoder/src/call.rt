@@ -4,7 +4,6 @@ use crate::record::ReadOut;
 use ldpc::Choice;
 use ldpc::Code;
 use refusals::Refusal;
-use runs::Reach;
 ghost use mathlib.Core.Path.{_≡_};
 ghost use mathlib.Core.Bool.{true};
 ghost use lib.ListN.{length};
@@ -40,16 +39,12 @@ fn decode_by(c: Code, rx: &[f32], limit: u16, work: &mut [f32], out: &mut [u8]) 
     if work.len() < needed {
         return ReadOut::Refused(Refusal::Work(work.len(), needed));
     }
-    channel::begin(c, s, rx, work);
-    let fresh = Reach {
-        iterations: 0,
-        converged: false,
-    };
-    let r = runs::go_on(c, s, fresh, limit, work);
+    let r = runs::decode_unbroken(c, s, rx, limit, work);
+    let clean = word::read(c, s, r.converged, work, out);
     ReadOut::Result(DecodeResult {
         iterations: r.iterations,
         converged: r.converged,
-        clean: word::read(c, s, r.converged, work, out),
+        clean: clean,
     })
 }
 

@@ -12,8 +12,9 @@ use Rattle.laws.proofs.Run.{run-add, run-done}
 use Rattle.messages.specs.Iteration.{iteration, settled}
 use Rattle.ldpc.specs.declared.choice.Code.{Code}
 use Rattle.ldpc.specs.Code.{codeGraph}
+use Rattle.channel.specs.Channel.{startMemory}
 use Rattle.runs.specs.declared.Reach.{Reach}
-use Rattle.runs.specs.Runs.{alpha, iterated, reachOf, reachedIn, Reached}
+use Rattle.runs.specs.Runs.{alpha, iterated, unbroken, reachOf, reachedIn, Reached}
 
 -- a memory and so many iterations done
 abbrev pub so-far : List Float → ℕ → Bool → Progress (List Float)
@@ -55,3 +56,15 @@ module _ (c : Code) (from : Reach) (g : ℕ) (w : List Float) where
   stays e =
       let q = run-done _ _ g (reachedIn from w) e in
       record { told = ap reachOf (sym q); left = ap (λ x. x .memory) (sym q) }
+
+-- from a fresh start it is the unbroken decode
+pub record Unbroken (c : Code) (rx w : List Float) (limit : ℕ) (r : Reach) (w′ : List Float) : Type 0 where
+  pub told : r ≡ reachOf (unbroken alpha c rx w limit)
+  pub left : w′ ≡ unbroken alpha c rx w limit .memory
+
+pub from-start : (c : Code) (rx w w₁ w₂ : List Float) (limit : ℕ) (r : Reach) → w₁ ≡ startMemory c rx w
+    → Reached c (record { iterations = 0; converged = false }) limit w₁ r w₂ → Unbroken c rx w limit r w₂
+unfolding unbroken reachedIn
+from-start c rx w w₁ w₂ limit r e R =
+    let k = ap (λ x. iterated alpha c limit (so-far x 0 false)) e in
+    record { told = R .told ∙ ap reachOf k; left = R .left ∙ ap (λ x. x .memory) k }

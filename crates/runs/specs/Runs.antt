@@ -1,4 +1,4 @@
--- A run of iterations over the work memory: 01, "Grant". Assumes nothing.
+-- A run of iterations over the work memory, and the unbroken decode: 01, "Grant", "Unbroken decode". Assumes nothing.
 use mathlib.Core.Path.{_≡_}
 use mathlib.Core.Bool.{false}
 use mathlib.Core.List.{List}
@@ -9,6 +9,7 @@ use Rattle.laws.specs.Run.{Progress, run}
 use Rattle.messages.specs.Iteration.{iteration, settled}
 use Rattle.ldpc.specs.declared.choice.Code.{Code}
 use Rattle.ldpc.specs.Code.{codeGraph}
+use Rattle.channel.specs.Channel.{startMemory}
 use Rattle.runs.specs.declared.Reach.{Reach}
 
 -- the code's own factor, 0.75
@@ -18,6 +19,10 @@ alpha = fin false 3 (negsuc 1)
 -- at most n iterations more, with a factor
 unfoldable pub iterated : Float → Code → ℕ → Progress (List Float) → Progress (List Float)
 iterated factor c n p = run (λ i. iteration factor (codeGraph c) (c .z)) (settled (codeGraph c) (c .z)) n p
+
+-- 01, "Unbroken decode": of a code, readings and a limit, in a memory w
+unfoldable pub unbroken : Float → Code → List Float → List Float → ℕ → Progress (List Float)
+unbroken factor c rx w n = iterated factor c n (record { memory = startMemory c rx w; iterations = 0; converged = false })
 
 -- how far a run has got, without its memory, and with it
 unfoldable pub reachOf : Progress (List Float) → Reach

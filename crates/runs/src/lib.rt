@@ -1,4 +1,5 @@
-// A run of iterations: until the decisions meet every check, or the grant is spent. 01, "Grant".
+// A run of iterations: until the decisions meet every check, or the grant is spent; and the unbroken decode, which is such a run
+// from a fresh start. 01, "Grant", "Unbroken decode".
 // What these functions require, their callers in this and the decoder's crate meet.
 use ldpc::Code;
 use minsum::Sizes;
@@ -7,7 +8,7 @@ ghost use mathlib.Core.Bool.{false};
 ghost use Prim.Native.Nat.{_+_, _≤_};
 ghost use lib.ListN.{length};
 ghost use Rattle.minsum.specs.Lent.{Ready, Rows, Edges, Sorted};
-ghost use Rattle.runs.specs.Runs.{Reached};
+ghost use Rattle.runs.specs.Runs.{alpha, unbroken, reachOf, Reached};
 
 // How far a decode has got: the iterations done, and whether the last of them converged.
 pub struct Reach {
@@ -65,4 +66,18 @@ pub fn go_on(c: Code, s: Sizes, from: Reach, g: u16, work: &mut [f32]) -> Reach
     let turn = l.turn;
     let sorted = l.sorted;
     iterations(c, s, from, g, &order, &start, &column, &turn, &sorted, work)
+}
+
+// Start, and at most `limit` iterations: the unbroken decode.
+pub fn decode_unbroken(c: Code, s: Sizes, rx: &[f32], limit: u16, work: &mut [f32]) -> Reach
+    requires { ⌜ Ready c s (length (now work)) × (length (now rx) ≡ c .«n_tx») ⌝ }
+    ensures { λ r. ⌜ r ≡ reachOf (unbroken alpha c (now (rx .entry)) (now (work .entry)) limit) ⌝ }
+    ensures { λ _. ⌜ now (work .exit) ≡ unbroken alpha c (now (rx .entry)) (now (work .entry)) limit .memory ⌝ }
+{
+    channel::begin(c, s, rx, work);
+    let fresh = Reach {
+        iterations: 0,
+        converged: false,
+    };
+    go_on(c, s, fresh, limit, work)
 }

@@ -27,8 +27,8 @@ use Rattle.ldpc.specs.Code.{codeGraph, infoEnd}
 use Rattle.coder.specs.Calls.{encodingOf, unsatisfiedOf}
 use Rattle.channel.specs.Channel.{channelOf, startMemory}
 use Rattle.word.specs.Word.{wordOf}
-use Rattle.runs.specs.Runs.{iterated}
-use Rattle.decoder.specs.Decoding.{unbroken, resultOf}
+use Rattle.runs.specs.Runs.{iterated, unbroken}
+use Rattle.decoder.specs.Decoding.{resultOf}
 use Rattle.table.specs.Table.{Row, among, readings, table, sameWord, isRefused, meets, hasSizes, sameResult, readsAs, holds, allHold}
 
 -- it unfolds all that the rows compute with, from the lowest layer up
