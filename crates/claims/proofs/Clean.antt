@@ -1,24 +1,17 @@
 -- Demand 3: every accepted read, whatever its record and its memory, shows clean exactly when it shows converged and its word is the
 -- encoding of its own information bits. Assumes nothing.
 use mathlib.Core.Path.{_≡_, sym, subst}
-use mathlib.Core.Bool.{Bool, true, false, cond, and-eq-true-iff}
+use mathlib.Core.Bool.{true, and-eq-true-iff}
 use mathlib.Core.Logic.{_↔_}
 use mathlib.Core.List.{List}
-use Prim.Native.Nat.{ℕ, _+_, _-_, _≤_}
-use native.Mathlib.Omega.{arith}
+use Prim.Native.Nat.{ℕ}
 use borrow.Author.Tests.{eq-eqb, eqb-true}
-use lib.Dec.{ltb, eqb}
+use lib.Dec.{eqb}
 use lib.ListN.{length, take}
 use lib.Ieee.{Float}
 use Rattle.refusals.specs.Told.{Told, gave, after}
-use Rattle.laws.specs.Written.{tabulate}
-use Rattle.laws.proofs.Written.{length-tabulate, getD-tabulate}
-use Rattle.matrix.specs.Encoding.{bit}
-use Rattle.messages.specs.Iteration.{decision}
-use Rattle.bits.specs.Sums.{Bits}
 use Rattle.ldpc.specs.declared.choice.Code.{Code}
 use Rattle.ldpc.specs.Choice.{made}
-use Rattle.ldpc.specs.Code.{codeGraph, infoEnd}
 use Rattle.coder.specs.Calls.{unsatisfiedOf, encodingOf}
 use Rattle.coder.proofs.Theorems.{codeword}
 use Rattle.word.proofs.Word.{word-long, word-bits}

@@ -38,6 +38,7 @@ use Rattle.ldpc.proofs.CodeEdges.{code-simple}
 use Rattle.coder.specs.Calls.{unsatisfiedOf, encodingOf}
 use Rattle.coder.proofs.Encoded.{encoded-length}
 use Rattle.coder.proofs.Theorems.{codeword}
+use Rattle.claims.proofs.Whole.{sent-lt}
 use Rattle.claims.proofs.Regions.{length-all, sent-at, channel-at}
 use Rattle.channel.specs.Channel.{certain, channelOf, startMemory}
 use Rattle.word.specs.Word.{wordOf}
@@ -75,13 +76,6 @@ module _ (k end : ℕ) (short : k ≤ end) (i : ℕ) where
         | no h ↦
             let e : k + (i - k) ≡ i = omega arith in
             rw (le-ltb i k (omega arith), lifted-parity k end word short (i - k), e)
-      ]
-
-  sent-lt : (m : ℕ) → i < k + m → sentBit k end i < end + m
-  sent-lt m h =
-      elim (decLt i k) [
-        | yes l ↦ rw (lt-ltb i k l) (omega arith)
-        | no l ↦ rw (le-ltb i k (omega arith)) (omega arith)
       ]
 
 -- ---- an encoding's bytes are bits, and the first k are those that were given
@@ -156,7 +150,7 @@ module _ (c : Code) (is-made : made c ≡ true) where
       bit-read : (i : ℕ) → i < c .«n_tx» → getD (wordOf c w) i 0 ≡ getD word i 0
       unfolding wordOf
       bit-read i h =
-          let inside = rw all-bits at (sent-lt (c .k) (infoEnd c) short i (checksOf c) (omega (arith, block))) in
+          let inside = sent-lt c is-made i h in
           getD-tabulate 0 _ (c .«n_tx») i h
           ∙ ap bit (decided (sentBit (c .k) (infoEnd c) i) inside ∙ sent-is (c .k) (infoEnd c) short i word)
           ∙ bit-of (getD word i 0) (bits i (omega arith))

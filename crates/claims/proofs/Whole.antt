@@ -98,7 +98,7 @@ module _ (c : Code) (m : made c ≡ true) where
     unbroken-front rx = front-then (start-front c rx) iterated-front
 
   -- the place of a transmitted bit in the lifted word
-  sent-lt : (i : ℕ) → i < c .«n_tx» → cond (ltb i (c .k)) i (infoEnd c + (i - c .k)) < bitsOf (codeGraph c) (c .z)
+  pub sent-lt : (i : ℕ) → i < c .«n_tx» → cond (ltb i (c .k)) i (infoEnd c + (i - c .k)) < bitsOf (codeGraph c) (c .z)
   unfolding infoEnd bitsOf
   sent-lt i h =
       let S = sized c m in
