@@ -15,10 +15,11 @@ use Rattle.decoder.specs.declared.record.Decode.{Decode}
 use Rattle.decoder.specs.declared.record.DecodeResult.{DecodeResult}
 use Rattle.decoder.specs.Decoding.{recordOf, progressOf, resultOf}
 
--- where a decode stands, and the record of it when a run of its code got so far
+-- how far a decode has got, by its record
 abbrev pub standing : Decode → Reach
 standing d = record { iterations = d .iterations; converged = d .converged }
 
+-- a grant, from there: the record that it returns, and the memory that it leaves
 pub granted : (d : Decode) (g : ℕ) (w w′ : List Float) (r : Reach) → Reached (d .code) (standing d) g w r w′
     → record { code = d .code; iterations = r .iterations; converged = r .converged }
     ≡ recordOf (d .code) (iterated alpha (d .code) g (progressOf d w))
