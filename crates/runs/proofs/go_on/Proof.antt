@@ -1,5 +1,6 @@
 -- `go_on` meets its contract. Assumes nothing.
 use mathlib.Core.Path.{_≡_, sym, ap, subst}
+use native.Mathlib.Omega.{arith}
 use lib.ListN.{length}
 use borrow.Author.Needs.{needs}
 use Rattle.runs.proofs.Steps.{stays}
@@ -44,7 +45,7 @@ iterations-requires c κs =
     let e = c .before .before .before .before .before .before .before .before .before .before .before .lists-of .ensures in
     let m = start .pre .0 .is-made in
     let sorted = subst (Sorted (start .args .c)) (sym (ap (λ l. l .sorted) e)) (length-sorted (start .args .c), λ v h. column-sorted (start .args .c) m v h) in
-    ((start .pre .0, (ap (λ l. l .order) e, ap (λ l. l .start) e), (ap (λ l. l .column) e, ap (λ l. l .turn) e), sorted), (c .before .before .before .before .before .before .before .before .before .before .before .before .if1 .left, start .pre .1))
+    ((start .pre .0, (ap (λ l. l .order) e, ap (λ l. l .start) e), (ap (λ l. l .column) e, ap (λ l. l .turn) e), sorted), (c .before .before .before .before .before .before .before .before .before .before .before .before .if1 .left, omega (arith, start .pre .1)))
 
 same-length : tie.Need-same-length
 same-length c = search needs
