@@ -12,7 +12,8 @@ use Rattle.coder.specs.Calls.{listed, unsatisfiedTold, encodeTold}
 use Rattle.decoder.specs.declared.record.Decode.{Decode}
 use Rattle.decoder.specs.declared.record.DecodeResult.{DecodeResult}
 use Rattle.decoder.specs.Calls.{startTold, grantTold, readTold, decodeTold, decodeMemory, decodeWritten}
-use Rattle.decoder.specs.Decoding.{alpha, iterated, progressOf}
+use Rattle.runs.specs.Runs.{alpha, iterated}
+use Rattle.decoder.specs.Decoding.{progressOf}
 use Rattle.boundary.specs.Answers.{workTold, putTold, ifAnswer, ifCode, ifDecode}
 
 -- the code's record is written to `room` numbers

@@ -17,7 +17,10 @@ use Rattle.decoder.specs.declared.record.Granted.{Granted}
 use Rattle.decoder.specs.declared.record.Granted.the-variants as granted
 use Rattle.decoder.specs.declared.record.ReadOut.{ReadOut}
 use Rattle.decoder.specs.declared.record.ReadOut.the-variants as readOut
-use Rattle.decoder.specs.Decoding.{alpha, startMemory, iterated, unbroken, recordOf, progressOf, wordOf, resultOf}
+use Rattle.channel.specs.Channel.{startMemory}
+use Rattle.word.specs.Word.{wordOf}
+use Rattle.runs.specs.Runs.{alpha, iterated, unbroken}
+use Rattle.decoder.specs.Decoding.{recordOf, progressOf, resultOf}
 
 -- refusal 8: the work memory's length, given and needed
 unfoldable pub ifWork : {A : Type 0} → Code → ℕ → Told A → Told A

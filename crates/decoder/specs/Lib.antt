@@ -1,5 +1,3 @@
--- The decode record, what its calls tell and write, and the claim of demand 3. Assumes nothing.
+-- The decode record, and what its calls tell and write. Assumes nothing.
 pub mod Decoding
 pub mod Calls
-pub mod Claim
-pub mod Runs

@@ -1,5 +1,5 @@
 // The one call: Choice, Start, one grant of the limit, and Read.
-use crate::record::Decode;
+use crate::record::DecodeResult;
 use crate::record::ReadOut;
 use ldpc::Choice;
 use ldpc::Code;
@@ -34,19 +34,18 @@ fn decode_by(c: Code, rx: &[f32], limit: u16, work: &mut [f32], out: &mut [u8]) 
     if out.len() != n_tx {
         return ReadOut::Refused(Refusal::Output(out.len(), n_tx));
     }
-    let s = minsum::sizes_of(c);
-    let needed = crate::start::work_needed(c, s);
+    let s = sizes::sizes_of(c);
+    let needed = channel::work_needed(c, s);
     if work.len() < needed {
         return ReadOut::Refused(Refusal::Work(work.len(), needed));
     }
-    crate::start::begin(c, s, rx, work);
-    let fresh = Decode {
-        code: c,
-        iterations: 0,
-        converged: false,
-    };
-    let d = crate::grant::go_on(fresh, s, limit, work);
-    ReadOut::Result(crate::read::write_result(d, s, work, out))
+    let r = runs::decode_unbroken(c, s, rx, limit, work);
+    let clean = word::read(c, s, r.converged, work, out);
+    ReadOut::Result(DecodeResult {
+        iterations: r.iterations,
+        converged: r.converged,
+        clean: clean,
+    })
 }
 
 // Decodes n_tx readings at a rate in at most `limit` iterations.

@@ -3,7 +3,7 @@ use refusals::Refusal;
 ghost use mathlib.Core.Path.{_≡_};
 ghost use lib.ListN.{length};
 ghost use Rattle.refusals.specs.Told.{after};
-ghost use Rattle.decoder.specs.Decoding.{wordOf};
+ghost use Rattle.word.specs.Word.{wordOf};
 ghost use Rattle.boundary.specs.Answers.{decodeIn, resultNumbers, numberTold, answered};
 ghost use Rattle.boundary.specs.Calls.{readAt};
 

@@ -4,7 +4,7 @@ use refusals::Refusal;
 ghost use mathlib.Core.Path.{_≡_};
 ghost use lib.ListN.{length};
 ghost use Rattle.refusals.specs.Told.{after};
-ghost use Rattle.decoder.specs.Decoding.{startMemory};
+ghost use Rattle.channel.specs.Channel.{startMemory};
 ghost use Rattle.boundary.specs.Answers.{codeIn, decodeNumbers, none, numberTold, answered, afterBy};
 ghost use Rattle.boundary.specs.Calls.{startAt};
 

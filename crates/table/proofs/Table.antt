@@ -25,7 +25,10 @@ use Rattle.messages.specs.Iteration.{gathered, answer, toBit, checkPass, added,
 use Rattle.ldpc.specs.Choice.{liftOf, serves, codeOf, triedFrom, chosen}
 use Rattle.ldpc.specs.Code.{codeGraph, infoEnd}
 use Rattle.coder.specs.Calls.{encodingOf, unsatisfiedOf}
-use Rattle.decoder.specs.Decoding.{channelOf, startMemory, iterated, unbroken, resultOf, wordOf}
+use Rattle.channel.specs.Channel.{channelOf, startMemory}
+use Rattle.word.specs.Word.{wordOf}
+use Rattle.runs.specs.Runs.{iterated, unbroken}
+use Rattle.decoder.specs.Decoding.{resultOf}
 use Rattle.table.specs.Table.{Row, among, readings, table, sameWord, isRefused, meets, hasSizes, sameResult, readsAs, holds, allHold}
 
 -- it unfolds all that the rows compute with, from the lowest layer up

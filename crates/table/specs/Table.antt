@@ -13,7 +13,9 @@ use Rattle.ldpc.specs.declared.choice.Code.{Code}
 use Rattle.ldpc.specs.Choice.{chosen}
 use Rattle.coder.specs.Calls.{encodingOf, unsatisfiedOf}
 use Rattle.decoder.specs.declared.record.DecodeResult.{DecodeResult}
-use Rattle.decoder.specs.Decoding.{alpha, unbroken, resultOf, wordOf}
+use Rattle.word.specs.Word.{wordOf}
+use Rattle.runs.specs.Runs.{alpha, unbroken}
+use Rattle.decoder.specs.Decoding.{resultOf}
 use Rattle.decoder.specs.Calls.{byCode}
 
 -- what 01 says of a rate and n_tx

@@ -1,16 +1,16 @@
 -- `decode_by` meets its contract: each way out by the tests before it. Assumes nothing.
-use mathlib.Core.Path.{_≡_, sym, ap, subst, _∙_}
+use mathlib.Core.Path.{sym, ap, _∙_}
 use native.Mathlib.Omega.{arith}
 use borrow.Author.Needs.{needs}
 use lib.ListN.{length}
 use Rattle.refusals.proofs.Lengths.{length-passed, length-refused}
-use Rattle.decoder.proofs.Started.{ready}
+use Rattle.channel.proofs.Started.{ready}
+use Rattle.word.specs.Word.{wordOf}
 use Rattle.decoder.specs.Calls.{decodedBy, memoryBy, writtenBy}
 use Rattle.refusals.specs.Told.{gave}
-use Rattle.decoder.proofs.Steps.{one-run}
+use Rattle.decoder.proofs.Runs.{telling, unbroken-result}
 use Rattle.decoder.proofs.Refused.{work-passed, work-refused}
-use Rattle.minsum.specs.Lent.{Ready}
-use Rattle.minsum.proofs.Lent.{ready-still}
+use Rattle.sizes.proofs.Lent.{ready-still}
 use Rattle.decoder.proofs.call.decode_by.Tie as tie
 use Rattle.decoder.proofs.call.decode_by.Statement.{statement}
 
@@ -45,32 +45,20 @@ returns-3 c =
     ∙ work-refused _ (start .args .c) (length (start .args .work .now)) (rw k at (c .if3 .taken)) in
     (rw k (sym e), (rw e, rw e))
 
-begin-requires : tie.Need-begin-requires
-begin-requires c κs =
+decode-unbroken-requires : tie.Need-decode-unbroken-requires
+decode-unbroken-requires c κs =
     let start = c .before .before .before .before .before .before .before .before .before in (
       ready (start .args .c) (c .before .before .before .sizes-of .result) (c .before .before .work-needed .result) (length (start .args .work .now)) (start .pre) (c .before .before .before .sizes-of .ensures)
           (c .before .before .work-needed .ensures) (omega (arith, c .before .if3 .left)),
       c .before .before .before .before .before .if1 .left,
     )
 
-go-on-requires : tie.Need-go-on-requires
-go-on-requires c κs =
-    let start = c .before .before .before .before .before .before .before .before .before .before .before .before .before in
-    let R = ready (start .args .c) (c .before .before .before .before .before .before .before .sizes-of .result) (c .before .before .before .before .before .before .work-needed .result) (length (start .args .work .now)) (start .pre) (c .before .before .before .before .before .before .before .sizes-of .ensures)
-    (c .before .before .before .before .before .before .work-needed .ensures) (omega (arith, c .before .before .before .before .before .if3 .left)) in
-    (ready-still R (c .before .before .before .begin .kept .1 .1 .1 .0), omega arith)
-
-write-result-requires : tie.Need-write-result-requires
-write-result-requires c κs =
-    let start = c .before .before .before .before .before .before .before .before .before .before .before .before .before .before .before .before .before .before in
-    let s = c .before .before .before .before .before .before .before .before .before .before .before .before .sizes-of .result in
-    let R = ready (start .args .c) s (c .before .before .before .before .before .before .before .before .before .before .before .work-needed .result) (length (start .args .work .now)) (start .pre) (c .before .before .before .before .before .before .before .before .before .before .before .before .sizes-of .ensures)
-    (c .before .before .before .before .before .before .before .before .before .before .before .work-needed .ensures) (omega (arith, c .before .before .before .before .before .before .before .before .before .before .if3 .left)) in
-    let O = one-run (start .args .c) (start .args .rx .now) (start .args .work .now) _ _ (start .args .limit) (c .before .before .before .before .go-on .result) (c .before .before .before .before .before .before .before .before .begin .ensures) (c .before .before .before .before .go-on .ensures) in
-    let e = sym (O .code-is) in (
-      subst (λ x. Ready x s (length (c .before .before .before .before .go-on .last .1 .1 .1 .0))) e (ready-still R (c .before .before .before .before .go-on .kept .1 .1 .1 .0 ∙ c .before .before .before .before .before .before .before .before .begin .kept .1 .1 .1 .0)),
-      subst (λ x. length (start .args .out .now) ≡ x .«n_tx») e (c .before .before .before .before .before .before .before .before .before .before .before .before .before .if2 .left),
-    )
+read-requires : tie.Need-read-requires
+read-requires c κs =
+    let start = c .before .before .before .before .before .before .before .before .before .before .before .before .before .before in
+    let R = ready (start .args .c) (c .before .before .before .before .before .before .before .before .sizes-of .result) (c .before .before .before .before .before .before .before .work-needed .result) (length (start .args .work .now)) (start .pre) (c .before .before .before .before .before .before .before .before .sizes-of .ensures)
+    (c .before .before .before .before .before .before .before .work-needed .ensures) (omega (arith, c .before .before .before .before .before .before .if3 .left)) in
+    (ready-still R (c .before .before .before .before .decode-unbroken .kept .1 .1 .1 .1 .0), c .before .before .before .before .before .before .before .before .before .if2 .left)
 
 same-length : tie.Need-same-length
 same-length c = search needs
@@ -81,14 +69,15 @@ same-length-2 c = search needs
 returns-4 : tie.Need-returns-4
 unfolding decodedBy memoryBy writtenBy
 returns-4 c =
-    let start = c .before .before .before .before .before .before .before .before .before .before .before .before .before .before .before .before .before .before .before .before .before in
-    let O = one-run (start .args .c) (start .args .rx .now) (start .args .work .now) _ _ (start .args .limit) (c .before .before .before .before .before .before .before .go-on .result) (c .before .before .before .before .before .before .before .before .before .before .before .begin .ensures) (c .before .before .before .before .before .before .before .go-on .ensures) in
-    let k = c .before .before .before .before .before .before .before .before .before .before .before .before .before .before .work-needed .ensures in
-    let W = c .before .before .write-result .ensures in
-    let e = length-passed _ 5 (length (start .args .rx .now)) (start .args .c .«n_tx») (c .before .before .before .before .before .before .before .before .before .before .before .before .before .before .before .before .before .if1 .left)
-    ∙ length-passed _ 9 (length (start .args .out .now)) (start .args .c .«n_tx») (c .before .before .before .before .before .before .before .before .before .before .before .before .before .before .before .before .if2 .left)
-    ∙ work-passed _ (start .args .c) (length (start .args .work .now)) (omega (arith, k, c .before .before .before .before .before .before .before .before .before .before .before .before .before .if3 .left)) in
-    (ap gave (W .0 ∙ O .result-is) ∙ sym e, (rw e (O .memory-is), rw e (W .1 ∙ O .word-is)))
+    let start = c .before .before .before .before .before .before .before .before .before .before .before .before .before .before .before .before .before in
+    let U = c .before .before .before .before .before .before .before .decode-unbroken .ensures in
+    let k = c .before .before .before .before .before .before .before .before .before .before .work-needed .ensures in
+    let W = c .before .before .read .ensures in
+    let e = length-passed _ 5 (length (start .args .rx .now)) (start .args .c .«n_tx») (c .before .before .before .before .before .before .before .before .before .before .before .before .before .if1 .left)
+    ∙ length-passed _ 9 (length (start .args .out .now)) (start .args .c .«n_tx») (c .before .before .before .before .before .before .before .before .before .before .before .before .if2 .left)
+    ∙ work-passed _ (start .args .c) (length (start .args .work .now)) (omega (arith, k, c .before .before .before .before .before .before .before .before .before .if3 .left)) in
+    let r = c .before .before .before .before .before .before .before .decode-unbroken .result in
+    (ap gave (ap (telling r) (W .0) ∙ unbroken-result (start .args .c) _ r _ (U .0) (U .1)) ∙ sym e, (rw e (U .1), rw e (W .1 ∙ ap (wordOf (start .args .c)) (U .1))))
 
 pub decode-by-spec : {M : Type 1} → statement M
 decode-by-spec =
@@ -99,9 +88,8 @@ decode-by-spec =
     sizes-of-requires
     work-needed-requires
     returns-3
-    begin-requires
-    go-on-requires
-    write-result-requires
+    decode-unbroken-requires
+    read-requires
     same-length
     same-length-2
     returns-4)

@@ -11,7 +11,8 @@ use Rattle.decoder.proofs.Refused.{work-passed, work-refused, sum-passe
 use Rattle.ldpc.proofs.Refused.{made-passed, made-refused}
 use Rattle.ldpc.specs.Choice.{made}
 use Rattle.decoder.specs.Calls.{grantTold, grantWritten}
-use Rattle.decoder.proofs.Started.{ready}
+use Rattle.channel.proofs.Started.{ready}
+use Rattle.decoder.proofs.Runs.{granted, granted-memory}
 use Rattle.decoder.proofs.record.Decode.grant.Tie as tie
 use Rattle.decoder.proofs.record.Decode.grant.Statement.{statement}
 
@@ -77,7 +78,7 @@ returns-4 c =
     let e = made-passed _ (start .args .self .code) (made-is (c .before .before .before .before .before .before .before .before .before))
     ∙ work-passed _ (start .args .self .code) (length (start .args .work .now)) (omega (arith, k, c .before .before .before .before .before .before .if2 .left))
     ∙ sum-passed _ (start .args .self .iterations + start .args .g) (omega (arith, c .before .before .before .before .if3 .left)) in
-    (ap gave (R .told) ∙ sym e, rw e (R .left))
+    (ap gave (granted (start .args .self) (start .args .g) (start .args .work .now) _ _ R) ∙ sym e, rw e (granted-memory (start .args .self) (start .args .g) (start .args .work .now) _ _ R))
 
 pub grant-spec : {M : Type 1} → statement M
 grant-spec =

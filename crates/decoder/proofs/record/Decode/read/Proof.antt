@@ -6,12 +6,13 @@ use borrow.Author.Needs.{needs}
 use lib.ListN.{length}
 use borrow.Author.Tests.{not-true, not-false}
 use Rattle.ldpc.specs.Choice.{made}
-use Rattle.decoder.proofs.Started.{ready}
+use Rattle.channel.proofs.Started.{ready}
 use Rattle.refusals.proofs.Lengths.{length-passed, length-refused}
 use Rattle.ldpc.proofs.Refused.{made-passed, made-refused}
 use Rattle.decoder.specs.Calls.{readTold, readWritten}
 use Rattle.decoder.proofs.Refused.{work-passed, work-refused}
 use Rattle.refusals.specs.Told.{gave}
+use Rattle.decoder.proofs.Runs.{standing, telling, read-result}
 use Rattle.decoder.proofs.record.Decode.read.Tie as tie
 use Rattle.decoder.proofs.record.Decode.read.Statement.{statement}
 
@@ -50,8 +51,8 @@ returns-3 c =
     ∙ work-refused _ (start .args .self .code) (length (start .args .work .now)) (rw k at (c .if3 .taken)) in
     (rw k (sym e), rw e)
 
-write-result-requires : tie.Need-write-result-requires
-write-result-requires c κs =
+read-requires : tie.Need-read-requires
+read-requires c κs =
     let start = c .before .before .before .before .before .before .before .before .before .before in (
       ready (start .args .self .code) (c .before .before .before .sizes-of .result) (c .before .before .work-needed .result) (length (start .args .work .now)) (made-is (c .before .before .before .before .before)) (c .before .before .before .sizes-of .ensures)
           (c .before .before .work-needed .ensures) (omega (arith, c .before .if3 .left)),
@@ -66,11 +67,12 @@ unfolding readTold readWritten
 returns-4 c =
     let start = c .before .before .before .before .before .before .before .before .before .before .before .before .before in
     let k = c .before .before .before .before .before .work-needed .ensures in
-    let R = c .before .before .write-result .ensures in
+    let R = c .before .before .read .ensures in
     let e = made-passed _ (start .args .self .code) (made-is (c .before .before .before .before .before .before .before .before))
     ∙ length-passed _ 9 (length (start .args .out .now)) (start .args .self .code .«n_tx») (c .before .before .before .before .before .before .before .if2 .left)
     ∙ work-passed _ (start .args .self .code) (length (start .args .work .now)) (omega (arith, k, c .before .before .before .before .if3 .left)) in
-    (ap gave (R .0) ∙ sym e, rw e (R .1))
+    let self = start .args .self in
+    (ap gave (ap (telling (standing self)) (R .0) ∙ read-result self (start .args .work .now)) ∙ sym e, rw e (R .1))
 
 pub read-spec : {M : Type 1} → statement M
 read-spec =
@@ -82,6 +84,6 @@ read-spec =
     sizes-of-requires
     work-needed-requires
     returns-3
-    write-result-requires
+    read-requires
     same-length
     returns-4)

@@ -7,7 +7,7 @@ use lib.ListN.{length}
 use borrow.Author.Tests.{not-true, not-false}
 use Rattle.refusals.proofs.Lengths.{length-passed, length-refused}
 use Rattle.ldpc.proofs.Refused.{made-passed, made-refused}
-use Rattle.decoder.proofs.Started.{ready}
+use Rattle.channel.proofs.Started.{ready}
 use Rattle.decoder.specs.Calls.{startTold, startWritten}
 use Rattle.decoder.proofs.Refused.{work-passed, work-refused}
 use Rattle.ldpc.specs.Choice.{made}

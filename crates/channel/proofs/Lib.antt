@@ -1,0 +1,2 @@
+-- The laws of what Start writes. Assumes nothing.
+pub mod Started

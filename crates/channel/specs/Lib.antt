@@ -1,0 +1,2 @@
+-- What Start writes. Assumes nothing.
+pub mod Channel

@@ -1,0 +1,2 @@
+-- The claim of demand 3. Assumes nothing.
+pub mod Claim

@@ -1,0 +1,2 @@
+-- The laws of the word that a read writes. Assumes nothing.
+pub mod Word

@@ -1,0 +1,2 @@
+-- The word that a read writes. Assumes nothing.
+pub mod Word
