@@ -2,7 +2,7 @@
 // from `msg` on.
 use crate::edge::edge_slot;
 ghost use mathlib.Core.Path.{_≡_};
-ghost use Prim.Native.Nat.{ℕ, _+_, _*_, _<_, _≤_};
+ghost use Prim.Native.Nat.{_+_, _<_, _≤_};
 ghost use lib.ListN.{length, getD};
 ghost use lib.Ieee.{nan, sub, binary32};
 ghost use Rattle.laws.specs.Written.{Written};

@@ -4,15 +4,15 @@ use Rattle.sizes.proofs.Lent.{ready-still}
 use Rattle.minsum.proofs.bit_pass.Statement.{statement}
 use Rattle.minsum.proofs.bit_pass.Tie as tie
 
-short-pass-requires : tie.Need-short-pass-requires
-short-pass-requires c κs = search needs
+bit-pass-requires : tie.Need-bit-pass-requires
+bit-pass-requires c κs = search needs
 
 total-pass-requires : tie.Need-total-pass-requires
 total-pass-requires c κs = search needs
 
 send-pass-requires : tie.Need-send-pass-requires
 send-pass-requires c κs =
-    let start = c .before .before .before .before .before .before .before .before .before .before .before .before .before in (ready-still (start .pre .0) (c .before .before .before .total-pass .kept .1 .1 .1 .1 .1 .0), start .pre .2)
+    let start = c .before .before .before .before .before .before .before .before .before .before .before .before in (ready-still (start .pre .0) (c .before .before .before .total-pass .kept .1 .1 .1 .1 .1 .0), start .pre .2)
 
 same-length : tie.Need-same-length
 same-length c = search needs
@@ -29,4 +29,4 @@ returns-2 c = rw (c .before .before .send-pass .ensures, c .before .before .befo
 pub bit-pass-spec : {M : Type 1} → statement M
 bit-pass-spec =
     tie.close
-    (tie.spec short-pass-requires total-pass-requires send-pass-requires same-length returns same-length-2 returns-2)
+    (tie.spec bit-pass-requires total-pass-requires send-pass-requires same-length returns same-length-2 returns-2)

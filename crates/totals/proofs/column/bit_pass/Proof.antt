@@ -1,9 +1,9 @@
 -- `bit_pass` meets its contract. Assumes nothing.
-use mathlib.Core.Path.{_≡_, _∙_}
-use Prim.Native.Nat.{ℕ, _+_, _*_, _≤_, _<_}
+use mathlib.Core.Path.{_∙_}
+use Prim.Native.Nat.{_+_}
 use native.Mathlib.Omega.{arith}
 use borrow.Author.Needs.{needs}
-use lib.ListN.{length, length-set}
+use lib.ListN.{length-set}
 use Rattle.totals.specs.Joined.{totalAt}
 use Rattle.totals.proofs.OneBit.{bit-done}
 use Rattle.totals.proofs.column.bit_pass.Statement.{statement}

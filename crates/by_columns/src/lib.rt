@@ -1,4 +1,4 @@
-// The bit pass of short lifts, column after column. What these functions require, their callers in this crate and minsum meet.
+// The bit pass column after column, for lifts above 1. What these functions require, their callers in this crate and minsum meet.
 use ldpc::Code;
 use sizes::Sizes;
 ghost use mathlib.Core.Path.{_≡_};
@@ -7,7 +7,7 @@ ghost use lib.ListN.{length};
 ghost use Rattle.matrix.specs.Edges.{ColumnList};
 ghost use Rattle.messages.specs.Iteration.{totalPass, sendPass};
 ghost use Rattle.ldpc.specs.Code.{codeGraph};
-ghost use Rattle.short.specs.Columns.{ColumnDone};
+ghost use Rattle.by_columns.specs.Columns.{ColumnDone};
 ghost use Rattle.sizes.specs.Lent.{Ready, Turns, Sorted};
 
 // A column whose base edges are lent, in rising row.
@@ -65,7 +65,7 @@ fn column(c: Code, s: Sizes, sorted: &[u8], turn: &[u16], v: usize, work: &mut [
 }
 
 // The totals, and what every bit sends to its checks.
-pub fn short_pass(c: Code, s: Sizes, sorted: &[u8], turn: &[u16], work: &mut [f32])
+pub fn bit_pass(c: Code, s: Sizes, sorted: &[u8], turn: &[u16], work: &mut [f32])
     requires { ⌜ Ready c s (length (now work)) × Sorted c (now sorted) × Turns c (now turn) ⌝ }
     ensures { λ _. ⌜ now (work .exit) ≡ sendPass (codeGraph c) (c .z) (totalPass (codeGraph c) (c .z) (now (work .entry))) ⌝ }
 {

@@ -1,4 +1,4 @@
--- `short_pass` meets its contract. The invariant: the columns below v are done. Assumes nothing.
+-- `bit_pass` meets its contract. The invariant: the columns below v are done. Assumes nothing.
 use Prim.Native.Nat.{_+_, _-_, _≤_, _<_}
 use native.Mathlib.Omega.{arith}
 use lib.ListN.{length}
@@ -8,11 +8,11 @@ use Rattle.laws.proofs.Written.{Upto, upto-none}
 use Rattle.messages.specs.Memory.{bitsOf, slotsOf}
 use Rattle.ldpc.specs.Code.{codeGraph}
 use Rattle.ldpc.proofs.CodeEdges.{code-simple}
-use Rattle.short.specs.Columns.{bitSent, columnOf}
+use Rattle.by_columns.specs.Columns.{bitSent, columnOf}
 use Rattle.sizes.proofs.Lent.{Known, known, ready-still}
-use Rattle.short.proofs.ByColumns.{column-turn, columns-done}
-use Rattle.short.proofs.short_pass.Statement.{statement}
-use Rattle.short.proofs.short_pass.Tie as tie
+use Rattle.by_columns.proofs.ByColumns.{column-turn, columns-done}
+use Rattle.by_columns.proofs.bit_pass.Statement.{statement}
+use Rattle.by_columns.proofs.bit_pass.Tie as tie
 
 abbrev Inv-loop : tie.InvT-loop
 Inv-loop c s sorted turn work₀ n v₀ work v =
@@ -66,8 +66,8 @@ returns c =
     columns-done (codeGraph (a .c)) (a .c .z) (sizes start .lift) (code-simple (a .c)) (a .work .now) (start .pre .0 .room) (c .before .loop .v) _
     (omega (arith, c .loop-test .left, sizes start .info-is, sizes start .rows-is, sizes start .shape .columns)) (c .before .loop .inv .1)
 
-pub short-pass-spec : {M : Type 1} → statement M
-short-pass-spec =
+pub bit-pass-spec : {M : Type 1} → statement M
+bit-pass-spec =
     tie.close
     (tie.spec
     Inv-loop

@@ -21,10 +21,10 @@ use Rattle.ldpc.specs.Code.{codeGraph}
 use Rattle.ldpc.proofs.CodeEdges.{code-simple}
 use Rattle.sizes.specs.declared.Sizes.{Sizes}
 use Rattle.totals.specs.Joined.{Reach, Reaches, Place, sentAt}
-use Rattle.short.specs.Columns.{ColumnDone}
+use Rattle.by_columns.specs.Columns.{ColumnDone}
 use Rattle.sizes.specs.Lent.{Turns}
 use Rattle.sizes.proofs.Lent.{Known, edge-at, per-edge-long}
-use Rattle.short.proofs.ByColumns.{column-told}
+use Rattle.by_columns.proofs.ByColumns.{column-told}
 
 -- three numbers that follow one another in a list
 pub three-of : (l : List ℕ) (at n : ℕ) → n ≡ 3 → at + 3 ≤ length l

@@ -4,9 +4,9 @@ use native.Mathlib.Omega.{arith}
 use borrow.Author.Needs.{needs}
 use lib.ListN.{length}
 use Rattle.sizes.proofs.Lent.{Known, known}
-use Rattle.short.proofs.Listed.{column-within, column-asked, column-done}
-use Rattle.short.proofs.listed_column.Statement.{statement}
-use Rattle.short.proofs.listed_column.Tie as tie
+use Rattle.by_columns.proofs.Listed.{column-within, column-asked, column-done}
+use Rattle.by_columns.proofs.listed_column.Statement.{statement}
+use Rattle.by_columns.proofs.listed_column.Tie as tie
 
 -- what is known at the entry, and that the numbers of a column are small
 sizes : (c : tie.Start) → Known (c .args .c) (c .args .s) (length (c .args .work .now))

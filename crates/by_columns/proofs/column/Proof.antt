@@ -5,10 +5,10 @@ use native.Mathlib.Omega.{arith}
 use borrow.Author.Needs.{needs}
 use lib.ListN.{length}
 use Rattle.ldpc.specs.Code.{codeGraph}
-use Rattle.short.specs.Columns.{ColumnDone}
+use Rattle.by_columns.specs.Columns.{ColumnDone}
 use Rattle.sizes.proofs.Lent.{Known, known}
-use Rattle.short.proofs.column.Statement.{statement}
-use Rattle.short.proofs.column.Tie as tie
+use Rattle.by_columns.proofs.column.Statement.{statement}
+use Rattle.by_columns.proofs.column.Tie as tie
 
 sizes : (c : tie.Start) → Known (c .args .c) (c .args .s) (length (c .args .work .now))
 sizes c = known (c .args .c) (c .args .s) (length (c .args .work .now)) (c .pre .0)

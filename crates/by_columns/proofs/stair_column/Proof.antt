@@ -8,11 +8,11 @@ use Rattle.matrix.specs.Edges.{ColumnList}
 use Rattle.ldpc.specs.Code.{codeGraph}
 use Rattle.sizes.proofs.Lent.{Known, known}
 use Rattle.sizes.specs.Lent.{Ready, Turns}
-use Rattle.short.specs.Columns.{ColumnDone}
+use Rattle.by_columns.specs.Columns.{ColumnDone}
 use Rattle.matrix.proofs.ByColumn.{two-listed}
 use borrow.Author.Needs.{needs}
-use Rattle.short.proofs.stair_column.Statement.{statement}
-use Rattle.short.proofs.stair_column.Tie as tie
+use Rattle.by_columns.proofs.stair_column.Statement.{statement}
+use Rattle.by_columns.proofs.stair_column.Tie as tie
 
 -- what is known at the entry
 sizes : (c : tie.Start) → Known (c .args .c) (c .args .s) (length (c .args .work .now))

@@ -24,7 +24,7 @@ use Rattle.messages.specs.Memory.{bitsOf, slotsOf, toChecks, toBits, needed, re
 use Rattle.messages.specs.Iteration.{added, total, totalPass, toCheck, sendPass}
 use Rattle.messages.proofs.Local.{total-agrees}
 use Rattle.totals.specs.Joined.{joinedSlot, totalOver, Place, offsetOf, totalAt, sentAt}
-use Rattle.short.specs.Columns.{bitSent, columnOf, ColumnDone}
+use Rattle.by_columns.specs.Columns.{bitSent, columnOf, ColumnDone}
 
 module _ (g : BaseGraph) (z : ℕ) (lift : 0 < z) (simple : Simple g) where
   abbrev N : ℕ

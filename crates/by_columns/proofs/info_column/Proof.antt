@@ -6,10 +6,10 @@ use lib.ListN.{length, take, drop}
 use Rattle.matrix.specs.Edges.{ColumnList}
 use Rattle.ldpc.specs.Code.{codeGraph}
 use Rattle.sizes.proofs.Lent.{Known, known}
-use Rattle.short.proofs.Listed.{three-of}
+use Rattle.by_columns.proofs.Listed.{three-of}
 use borrow.Author.Needs.{needs}
-use Rattle.short.proofs.info_column.Statement.{statement}
-use Rattle.short.proofs.info_column.Tie as tie
+use Rattle.by_columns.proofs.info_column.Statement.{statement}
+use Rattle.by_columns.proofs.info_column.Tie as tie
 
 -- what is known at the entry
 sizes : (c : tie.Start) → Known (c .args .c) (c .args .s) (length (c .args .work .now))
