@@ -1,5 +1,5 @@
 // The convergence test: whether the decisions meet every check, by the lists of the call. What these functions require, their
-// callers in this and the decoder's crates meet.
+// callers in this crate and runs meet.
 mod offsets;
 mod row;
 

@@ -1,5 +1,5 @@
 // One iteration of normalised min-sum over the work memory: 01, "Iteration". Each pass goes by the lists of the call.
-// What these functions require, their callers in this and the decoder's crates meet.
+// What these functions require, their callers in this crate, channel and runs meet.
 use ldpc::Code;
 use sizes::Sizes;
 ghost use mathlib.Core.Path.{_≡_};
