@@ -5,8 +5,8 @@ use lib.ListN.{length}
 use Rattle.coder.specs.Calls.{listed, listWritten}
 use Rattle.boundary.specs.Calls.{membersAt}
 use borrow.Author.Needs.{needs}
-use Rattle.ffi_code.proofs.check_members.fuyegbo_check_members.Statement.{statement}
-use Rattle.ffi_code.proofs.check_members.fuyegbo_check_members.Tie as tie
+use Rattle.ffi_coder.proofs.check_members.fuyegbo_check_members.Statement.{statement}
+use Rattle.ffi_coder.proofs.check_members.fuyegbo_check_members.Tie as tie
 
 returns : tie.Need-returns
 unfolding membersAt

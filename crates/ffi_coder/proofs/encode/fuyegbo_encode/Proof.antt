@@ -5,8 +5,8 @@ use lib.ListN.{length}
 use Rattle.coder.specs.Calls.{encodeTold, encodeWritten}
 use Rattle.boundary.specs.Calls.{encodeAt}
 use borrow.Author.Needs.{needs}
-use Rattle.ffi_code.proofs.encode.fuyegbo_encode.Statement.{statement}
-use Rattle.ffi_code.proofs.encode.fuyegbo_encode.Tie as tie
+use Rattle.ffi_coder.proofs.encode.fuyegbo_encode.Statement.{statement}
+use Rattle.ffi_coder.proofs.encode.fuyegbo_encode.Tie as tie
 
 returns : tie.Need-returns
 unfolding encodeAt

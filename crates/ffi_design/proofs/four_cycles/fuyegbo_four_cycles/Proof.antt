@@ -2,8 +2,8 @@
 use mathlib.Core.Path.{_≡_, sym, _∙_}
 use Rattle.boundary.proofs.Answered.{no-answer, has-answer, left-answer, number-of, number-as, answer-as}
 use borrow.Author.Needs.{needs}
-use Rattle.ffi_graph.proofs.four_cycles.fuyegbo_four_cycles.Statement.{statement}
-use Rattle.ffi_graph.proofs.four_cycles.fuyegbo_four_cycles.Tie as tie
+use Rattle.ffi_design.proofs.four_cycles.fuyegbo_four_cycles.Statement.{statement}
+use Rattle.ffi_design.proofs.four_cycles.fuyegbo_four_cycles.Tie as tie
 
 returns : tie.Need-returns
 returns c =

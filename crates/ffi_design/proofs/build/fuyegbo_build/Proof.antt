@@ -3,8 +3,8 @@ use mathlib.Core.Path.{_≡_, sym, _∙_}
 use Rattle.boundary.proofs.Answered.{no-answer, has-answer, left-answer, number-of, kept, number-as, after-as, answer-as}
 use Rattle.graph.specs.Calls.{rowsBuilt, shiftsBuilt}
 use borrow.Author.Needs.{needs}
-use Rattle.ffi_graph.proofs.build.fuyegbo_build.Statement.{statement}
-use Rattle.ffi_graph.proofs.build.fuyegbo_build.Tie as tie
+use Rattle.ffi_design.proofs.build.fuyegbo_build.Statement.{statement}
+use Rattle.ffi_design.proofs.build.fuyegbo_build.Tie as tie
 
 returns : tie.Need-returns
 returns c =

@@ -5,8 +5,8 @@ use Rattle.boundary.proofs.Answered.{no-answer, has-answer, left-answer, no-dec
 use Rattle.decoder.specs.Calls.{grantTold, grantWritten}
 use Rattle.boundary.specs.Calls.{grantAt, grantedMemory}
 use borrow.Author.Needs.{needs}
-use Rattle.ffi_decode.proofs.grant.fuyegbo_grant.Statement.{statement}
-use Rattle.ffi_decode.proofs.grant.fuyegbo_grant.Tie as tie
+use Rattle.ffi_start.proofs.grant.fuyegbo_grant.Statement.{statement}
+use Rattle.ffi_start.proofs.grant.fuyegbo_grant.Tie as tie
 
 returns : tie.Need-returns
 unfolding grantAt

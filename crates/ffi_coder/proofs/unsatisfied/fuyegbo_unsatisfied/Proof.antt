@@ -4,8 +4,8 @@ use Rattle.boundary.proofs.Answered.{no-answer, has-answer, left-answer, no-cod
 use Rattle.coder.specs.Calls.{unsatisfiedTold}
 use Rattle.boundary.specs.Calls.{unsatisfiedAt}
 use borrow.Author.Needs.{needs}
-use Rattle.ffi_code.proofs.unsatisfied.fuyegbo_unsatisfied.Statement.{statement}
-use Rattle.ffi_code.proofs.unsatisfied.fuyegbo_unsatisfied.Tie as tie
+use Rattle.ffi_coder.proofs.unsatisfied.fuyegbo_unsatisfied.Statement.{statement}
+use Rattle.ffi_coder.proofs.unsatisfied.fuyegbo_unsatisfied.Tie as tie
 
 returns : tie.Need-returns
 unfolding unsatisfiedAt

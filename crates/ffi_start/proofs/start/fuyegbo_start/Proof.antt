@@ -6,8 +6,8 @@ use lib.ListN.{length}
 use Rattle.decoder.specs.Calls.{startTold, startWritten}
 use Rattle.boundary.specs.Calls.{startAt}
 use borrow.Author.Needs.{needs}
-use Rattle.ffi_decode.proofs.start.fuyegbo_start.Statement.{statement}
-use Rattle.ffi_decode.proofs.start.fuyegbo_start.Tie as tie
+use Rattle.ffi_start.proofs.start.fuyegbo_start.Statement.{statement}
+use Rattle.ffi_start.proofs.start.fuyegbo_start.Tie as tie
 
 returns : tie.Need-returns
 unfolding startAt
