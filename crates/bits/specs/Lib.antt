@@ -1,5 +1,4 @@
--- What is said of bits that are bytes, and of base edges. Assumes nothing.
+-- What is said of bits that are bytes. Assumes nothing.
 pub mod Sums
 pub mod Rows
 pub mod Words
-pub mod Edge

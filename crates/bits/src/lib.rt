@@ -1,14 +1,9 @@
-// What codes do with no code at hand: runs of bits that are bytes, added and turned; the bytes of a word; base edges as
-// records. What a function requires, its callers meet, in the crates of codes above. Assumes nothing else.
-mod edge;
+// What codes do with no code at hand: runs of bits that are bytes, added and turned; the bytes of a word. What a function requires,
+// its callers meet, in the crates of codes above. Assumes nothing else.
 mod rows;
 mod sums;
 mod words;
 
-pub use edge::Edge;
-pub use edge::edge_at;
-pub use edge::info_edge;
-pub use edge::rotated;
 pub use rows::copy_info;
 pub use rows::step_row;
 pub use rows::total_of;

@@ -1,5 +1,5 @@
 // What the functions of the C boundary share: records and answers as plain numbers in lent slices, and the definitions of what
-// each call tells. What these functions require, the crates ffi_code, ffi_decode and ffi_graph meet: they test the sizes first.
+// each call tells. What these functions require, the ffi crates meet: they test the sizes first.
 mod answers;
 mod codes;
 mod records;

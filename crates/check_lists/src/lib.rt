@@ -9,7 +9,7 @@ ghost use Prim.Native.Nat.{_<_, _≤_};
 ghost use lib.ListN.{length, drop};
 ghost use Rattle.laws.specs.Range.{count, collect};
 ghost use Rattle.matrix.specs.Edges.{edges};
-ghost use Rattle.bits.specs.Edge.{graphIn};
+ghost use Rattle.base_edges.specs.Edge.{graphIn};
 ghost use Rattle.ldpc.specs.Choice.{made};
 ghost use Rattle.ldpc.specs.Code.{codeGraph};
 ghost use Rattle.check_lists.specs.Members.{isMember, memberPlace, memberAt};
@@ -33,11 +33,11 @@ fn member_at<'a>(
     ensures { λ r. ⌜ r ≡ memberAt c check b ⌝ }
 {
     let z = c.z;
-    let e = bits::edge_at(s, rows, shifts, b);
+    let e = base_edges::edge_at(s, rows, shifts, b);
     if e.row != check / z {
         return Sent::None;
     }
-    let v = e.column * z + bits::rotated(check % z, e.shift, z);
+    let v = e.column * z + base_edges::rotated(check % z, e.shift, z);
     if v < c.k {
         return Sent::Place(v);
     }

@@ -1,7 +1,7 @@
 // Sums modulo 2 of bits over base edges: the syndrome of a word, and the information sums of an encoding. A column of the
 // lifted word is turned in two runs, so that no bit asks for a remainder. What `row_sums` requires, its callers in stairs and
 // coder meet.
-use bits::Edge;
+use base_edges::Edge;
 use bits::Part;
 use ldpc::Code;
 use tables::Shape;
@@ -10,7 +10,7 @@ ghost use mathlib.Core.Bool.{true};
 ghost use Prim.Native.Nat.{_+_, _*_, _<_, _≤_};
 ghost use lib.ListN.{length};
 ghost use Rattle.matrix.specs.Edges.{edges};
-ghost use Rattle.bits.specs.Edge.{graphIn, edgeOf};
+ghost use Rattle.base_edges.specs.Edge.{graphIn, edgeOf};
 ghost use Rattle.bits.specs.Sums.{Bits};
 ghost use Rattle.ldpc.specs.Choice.{made};
 ghost use Rattle.ldpc.specs.Code.{codeGraph, checksOf};
@@ -34,7 +34,7 @@ fn add_edge(c: Code, b: usize, e: Edge, word: &[u8], part: Part, sums: &mut [u8]
     ensures { λ _. ⌜ now (sums .exit) ≡ sumsOf c (now (word .entry)) (b + 1) ⌝ }
 {
     let z = c.z;
-    let turn = bits::rotated(0, e.shift, z);
+    let turn = base_edges::rotated(0, e.shift, z);
     bits::add_turned(sums, e.row * z, word, part, turn, z);
 }
 
@@ -55,7 +55,7 @@ fn add_column<'a>(
     let mut b = 3 * column;
     let end = b + 3;
     while b < end {
-        let e = bits::info_edge(s, rows, shifts, b);
+        let e = base_edges::info_edge(s, rows, shifts, b);
         add_edge(c, b, e, word, part, sums);
         b += 1;
     }
@@ -95,7 +95,7 @@ fn add_next<'a>(
     requires { ⌜ (made c ≡ true) × (graphIn s (now rows) (now shifts) ≡ codeGraph c) × (b < edges (codeGraph c)) × Bits (now word) × (now sums ≡ sumsOf c (now word) b) ⌝ }
     ensures { λ _. ⌜ now (sums .exit) ≡ sumsOf c (now (word .entry)) (b + 1) ⌝ }
 {
-    let e = bits::edge_at(s, rows, shifts, b);
+    let e = base_edges::edge_at(s, rows, shifts, b);
     let part = part_of(c, s.k_b, e.column, word);
     add_edge(c, b, e, word, part, sums);
 }

@@ -16,8 +16,8 @@ use Rattle.tables.proofs.Columns as Columns
 use Rattle.matrix.specs.Edges.{edges, edgeRow, edgeColumn, edgeShift}
 use Rattle.matrix.proofs.Edges.{parity-shift}
 use Rattle.matrix.proofs.Simple.{Simple, simple}
-use Rattle.bits.specs.declared.edge.Edge.{Edge}
-use Rattle.bits.specs.Edge.{graphIn, edgesIn, edgeOf}
+use Rattle.base_edges.specs.declared.Edge.{Edge}
+use Rattle.base_edges.specs.Edge.{graphIn, edgesIn, edgeOf}
 use Rattle.ldpc.specs.declared.choice.Code.{Code}
 use Rattle.ldpc.specs.Choice.{made}
 use Rattle.ldpc.specs.Code.{codeGraph}

@@ -6,7 +6,7 @@ use lib.IntN.{pos}
 use lib.Ieee.{Float, binary32, div, ofInt, fin}
 use Rattle.tables.specs.declared.Shape.{Shape}
 use Rattle.matrix.specs.Edges.{edges}
-use Rattle.bits.specs.Edge.{edgeOf}
+use Rattle.base_edges.specs.Edge.{edgeOf}
 use Rattle.ldpc.specs.declared.choice.Code.{Code}
 use Rattle.ldpc.specs.declared.getters.EdgeAt.{EdgeAt}
 use Rattle.ldpc.specs.declared.getters.EdgeAt.the-variants.{Edge, None}

@@ -1,7 +1,7 @@
 // What a code record tells of itself, by the Rust's names. The four fields are answered as they stand; what is computed is
 // 0, or none, for a record that Choice does not give.
 use crate::choice::Code;
-use bits::Edge;
+use base_edges::Edge;
 use tables::Shape;
 ghost use mathlib.Core.Path.{_≡_};
 ghost use Rattle.ldpc.specs.Getters.{checksTold, shapeTold, rateTold, edgeTold, workTold};
@@ -87,7 +87,7 @@ impl Code {
         }
         let rows = g.rows;
         let shifts = g.shifts;
-        EdgeAt::Edge(bits::edge_at(s, &rows, &shifts, b))
+        EdgeAt::Edge(base_edges::edge_at(s, &rows, &shifts, b))
     }
 
     // How many numbers of work memory a decode needs.

@@ -6,7 +6,7 @@ use native.Mathlib.Nat.{mod-lt, mul-le-mul}
 use borrow.Author.Tests.{lt-ltb, le-ltb, le-leb, lt-leb, eq-eqb, ne-eqb}
 use Rattle.matrix.specs.Edges.{bitAt}
 use Rattle.matrix.specs.Checks.{isSent, placeOf}
-use Rattle.bits.specs.declared.edge.Edge.{Edge}
+use Rattle.base_edges.specs.declared.Edge.{Edge}
 use Rattle.ldpc.specs.declared.choice.Code.{Code}
 use Rattle.ldpc.specs.Code.{codeGraph, infoEnd}
 use Rattle.ldpc.proofs.Made.{Sized, sized}

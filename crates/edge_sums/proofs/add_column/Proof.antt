@@ -5,7 +5,7 @@ use native.Mathlib.Omega.{arith}
 use lib.ListN.{length}
 use Rattle.matrix.specs.Edges.{edges}
 use Rattle.matrix.proofs.Edges.{info-column}
-use Rattle.bits.specs.Edge.{edgeOf}
+use Rattle.base_edges.specs.Edge.{edgeOf}
 use Rattle.ldpc.specs.declared.choice.Code.{Code}
 use Rattle.ldpc.specs.Code.{codeGraph}
 use Rattle.ldpc.proofs.Made.{sized}

@@ -12,7 +12,7 @@ use Rattle.laws.proofs.Collect.{length-collect}
 use Rattle.refusals.specs.Told.{Told, gave, refused}
 use Rattle.matrix.specs.Edges.{edges}
 use Rattle.matrix.specs.Checks.{membersOf}
-use Rattle.bits.specs.Edge.{edgesIn}
+use Rattle.base_edges.specs.Edge.{edgesIn}
 use Rattle.ldpc.specs.declared.choice.Code.{Code}
 use Rattle.ldpc.specs.Choice.{made, ifMade}
 use Rattle.ldpc.specs.Code.{codeGraph, checksOf}

@@ -8,8 +8,8 @@ use borrow.Author.Tests.{not-true, not-false, lt-ltb, le-ltb}
 use Rattle.tables.specs.declared.BaseGraph.{BaseGraph}
 use Rattle.tables.proofs.Sizes.{Shaped}
 use Rattle.matrix.specs.Edges.{edges}
-use Rattle.bits.specs.declared.edge.Edge.{Edge}
-use Rattle.bits.specs.Edge.{edgesIn, edgeOf}
+use Rattle.base_edges.specs.declared.Edge.{Edge}
+use Rattle.base_edges.specs.Edge.{edgesIn, edgeOf}
 use Rattle.ldpc.specs.declared.choice.Code.{Code}
 use Rattle.ldpc.specs.declared.getters.EdgeAt.the-variants.{None}
 use Rattle.ldpc.specs.declared.getters.EdgeAt.the-variants as at

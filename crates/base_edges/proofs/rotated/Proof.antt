@@ -2,8 +2,8 @@
 use mathlib.Core.Path.{sym}
 use native.Mathlib.Nat.{mod-one}
 use borrow.Author.Needs.{needs}
-use Rattle.bits.proofs.edge.rotated.Statement.{statement}
-use Rattle.bits.proofs.edge.rotated.Tie as tie
+use Rattle.base_edges.proofs.rotated.Statement.{statement}
+use Rattle.base_edges.proofs.rotated.Tie as tie
 
 returns : tie.Need-returns
 returns c = rw (c .if1 .taken) (sym (mod-one _))

@@ -9,8 +9,8 @@ use Rattle.laws.specs.Columns.{parityRow}
 use Rattle.tables.specs.declared.BaseGraph.{BaseGraph}
 use Rattle.matrix.specs.Edges.{edgeShift}
 use Rattle.matrix.proofs.Edges.{info-row, info-column, parity-row, parity-column, parity-shift}
-use Rattle.bits.specs.declared.edge.Edge.{Edge}
-use Rattle.bits.specs.Edge.{edgeOf}
+use Rattle.base_edges.specs.declared.Edge.{Edge}
+use Rattle.base_edges.specs.Edge.{edgeOf}
 
 -- an edge by its parts
 edge : {r c s : ℕ} (e : Edge) → r ≡ e .row → c ≡ e .column → s ≡ e .shift → record { row = r; column = c; shift = s } ≡ e

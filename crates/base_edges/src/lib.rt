@@ -1,8 +1,9 @@
-// The base edges of a graph, and the bit that one joins to a check: 01, "Base edges".
+// The base edges of a graph, and the bit that one joins to a check: 01, "Base edges". What a function requires, its callers meet, in
+// the crates of codes above.
 use tables::Shape;
 ghost use mathlib.Core.Path.{_≡_};
 ghost use Prim.Native.Nat.{_+_, _*_, _%_, _<_, _≤_};
-ghost use Rattle.bits.specs.Edge.{graphIn, edgeOf, edgesIn};
+ghost use Rattle.base_edges.specs.Edge.{graphIn, edgeOf, edgesIn};
 
 // A base edge: its row, its column and its shift.
 pub struct Edge {

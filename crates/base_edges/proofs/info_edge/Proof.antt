@@ -1,9 +1,9 @@
 -- `info_edge` meets its contract. Assumes nothing.
 use borrow.Author.Needs.{needs}
-use Rattle.bits.specs.Edge.{graphIn}
-use Rattle.bits.proofs.Edges.{info-is}
-use Rattle.bits.proofs.edge.info_edge.Statement.{statement}
-use Rattle.bits.proofs.edge.info_edge.Tie as tie
+use Rattle.base_edges.specs.Edge.{graphIn}
+use Rattle.base_edges.proofs.Edges.{info-is}
+use Rattle.base_edges.proofs.info_edge.Statement.{statement}
+use Rattle.base_edges.proofs.info_edge.Tie as tie
 
 element-copy-out-wide8 : tie.Need-element-copy-out-wide8
 element-copy-out-wide8 c = search needs

@@ -4,7 +4,7 @@ use Prim.Native.Nat.{ℕ, _+_, _*_}
 use Rattle.tables.specs.declared.Shape.{Shape}
 use Rattle.tables.specs.declared.BaseGraph.{BaseGraph}
 use Rattle.matrix.specs.Edges.{edgeRow, edgeColumn, edgeShift}
-use Rattle.bits.specs.declared.edge.Edge.{Edge}
+use Rattle.base_edges.specs.declared.Edge.{Edge}
 
 abbrev pub graphIn : Shape → List ℕ → List ℕ → BaseGraph
 graphIn s rows shifts = record { shape = s; rows = rows; shifts = shifts }

@@ -5,10 +5,10 @@ use native.Mathlib.Omega.{arith}
 use borrow.Author.Needs.{needs}
 use borrow.Author.Tests.{eq-eqb, ne-eqb}
 use Rattle.laws.specs.Columns.{parityRow}
-use Rattle.bits.specs.Edge.{graphIn}
-use Rattle.bits.proofs.Edges.{parity-is}
-use Rattle.bits.proofs.edge.edge_at.Statement.{statement}
-use Rattle.bits.proofs.edge.edge_at.Tie as tie
+use Rattle.base_edges.specs.Edge.{graphIn}
+use Rattle.base_edges.proofs.Edges.{parity-is}
+use Rattle.base_edges.proofs.edge_at.Statement.{statement}
+use Rattle.base_edges.proofs.edge_at.Tie as tie
 
 mul-info : tie.Need-mul-info
 mul-info c = search needs

@@ -1,0 +1,2 @@
+-- The laws of base edges. Assumes nothing.
+pub mod Edges

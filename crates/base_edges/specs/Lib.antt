@@ -1,0 +1,2 @@
+-- Base edges as records. Assumes nothing.
+pub mod Edge
