@@ -1,4 +1,4 @@
-// The bit pass column after column, for lifts above 1. What these functions require, their callers in this crate and minsum meet.
+// The bit pass column after column, for short lifts. What these functions require, their callers in this crate and minsum meet.
 use ldpc::Code;
 use sizes::Sizes;
 ghost use mathlib.Core.Path.{_≡_};

@@ -1,7 +1,6 @@
-// A column: bit after bit, or by runs.
+// A column, bit after bit.
 use crate::bit::bit_send;
 use crate::bit::bit_total;
-use crate::long::by_runs;
 ghost use Prim.Native.Nat.{_+_, _<_, _≤_};
 ghost use lib.ListN.{length};
 ghost use lib.Ieee.{nan};
@@ -27,8 +26,8 @@ fn bit_pass(
     bit_send(work, total, bits + bits, msg, z, j, edges, turn);
 }
 
-// Every bit of a column that begins at `column`, one after the other.
-fn by_bits(
+// Every bit of a column that begins at `column`.
+pub fn column_pass(
     work: &mut [f32],
     bits: usize,
     msg: usize,
@@ -44,25 +43,5 @@ fn by_bits(
     while j < z {
         bit_pass(work, bits, msg, z, column, j, edges, turn);
         j += 1;
-    }
-}
-
-// The same by the faster way: below a lift of 32 runs of numbers would be too short to pay.
-pub fn column_pass(
-    work: &mut [f32],
-    bits: usize,
-    msg: usize,
-    z: usize,
-    column: usize,
-    edges: &[u8],
-    turn: &[u16],
-)
-    requires { ⌜ (0 < z) × (z ≤ 324) × (column + z ≤ bits) × (bits ≤ 19440) × (bits + bits ≤ msg) × (bits + bits ≤ length (now work)) × Reaches z (bits + bits) msg (length (now work)) (now turn) (now edges) ⌝ }
-    ensures { λ _. ⌜ Written nan bits (Place bits column z (now (edges .entry))) (sentAt bits msg z (now (turn .entry)) column (now (edges .entry)) (now (work .entry))) (now (work .entry)) (now (work .exit)) ⌝ }
-{
-    if z < 32 {
-        by_bits(work, bits, msg, z, column, edges, turn);
-    } else {
-        by_runs(work, bits, msg, z, column, edges, turn);
     }
 }

@@ -12,7 +12,7 @@ total-pass-requires c κs = search needs
 
 send-pass-requires : tie.Need-send-pass-requires
 send-pass-requires c κs =
-    let start = c .before .before .before .before .before .before .before .before .before .before .before .before in (ready-still (start .pre .0) (c .before .before .before .total-pass .kept .1 .1 .1 .1 .1 .0), start .pre .2)
+    let start = c .before .before .before .before .before .before .before .before .before .before .before .before .before in (ready-still (start .pre .0) (c .before .before .before .total-pass .kept .1 .1 .1 .1 .1 .0), start .pre .2)
 
 same-length : tie.Need-same-length
 same-length c = search needs
