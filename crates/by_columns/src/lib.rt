@@ -1,5 +1,9 @@
-// The bit pass column after column, for short lifts. What these functions require, their callers in this crate and minsum meet.
+// The bit pass column after column: of short lifts, and of long ones. What these functions require, their callers in this crate and
+// minsum meet.
+mod long;
+
 use ldpc::Code;
+pub use long::long_pass;
 use sizes::Sizes;
 ghost use mathlib.Core.Path.{_≡_};
 ghost use Prim.Native.Nat.{_+_, _<_};

@@ -112,8 +112,8 @@ fn send_pass(c: Code, s: Sizes, column: &[u8], turn: &[u16], work: &mut [f32])
     }
 }
 
-// The totals, and what every bit sends to its checks. From a lift of 2 up to 31 a column at a time is faster than runs of numbers;
-// at a lift of 1 a run is one number.
+// The totals, and what every bit sends to its checks: column after column, so that a column's numbers stay near. At a lift of 1 a
+// column is one number, and all base edges in one loop are faster.
 fn bit_pass(
     c: Code,
     s: Sizes,
@@ -126,7 +126,9 @@ fn bit_pass(
     requires { ⌜ Ready c s (length (now work)) × (now order ≡ orderOf (codeGraph c)) × Edges c (now column) (now turn) × Sorted c (now sorted) ⌝ }
     ensures { λ _. ⌜ now (work .exit) ≡ sendPass (codeGraph c) (c .z) (totalPass (codeGraph c) (c .z) (now (work .entry))) ⌝ }
 {
-    if (1 < c.z) & (c.z < 32) {
+    if 31 < c.z {
+        by_columns::long_pass(c, s, sorted, turn, work);
+    } else if 1 < c.z {
         by_columns::bit_pass(c, s, sorted, turn, work);
     } else {
         total_pass(c, s, order, column, turn, work);

@@ -53,3 +53,7 @@ unfoldable pub sentAt : ℕ → ℕ → ℕ → List ℕ → ℕ → List ℕ �
 sentAt bits msg z turn c l w x =
     let t = totalAt msg z turn c l w (offsetOf bits c z turn x) in
     cond (ltb x bits) t (sub binary32 t (reading w msg (x - bits)))
+
+-- what is sent at slot s, of the totals of a column from `tot` on
+unfoldable pub lessTotal : ℕ → ℕ → ℕ → List ℕ → List Float → ℕ → Float
+lessTotal tot msg z turn w s = sub binary32 (reading w tot ((s % z + getD turn (s / z) 0) % z)) (reading w msg s)

@@ -1,0 +1,52 @@
+-- `listed_column` meets its contract. Assumes nothing.
+use Prim.Native.Nat.{_+_, _*_, _≤_}
+use native.Mathlib.Omega.{arith}
+use borrow.Author.Needs.{needs}
+use lib.ListN.{length}
+use Rattle.sizes.proofs.Lent.{Known, known}
+use Rattle.by_columns.proofs.Listed.{column-within, column-asked, column-done}
+use Rattle.by_columns.proofs.long.listed_column.Statement.{statement}
+use Rattle.by_columns.proofs.long.listed_column.Tie as tie
+
+-- what is known at the entry, and that the numbers of a column are small
+sizes : (c : tie.Start) → Known (c .args .c) (c .args .s) (length (c .args .work .now))
+sizes c = known (c .args .c) (c .args .s) (length (c .args .work .now)) (c .pre .0)
+
+small : (c : tie.Start) → c .args .v * c .args .c .z + c .args .c .z ≤ c .args .s .bits
+small c = column-within (c .args .c) (c .args .s) (length (c .args .work .now)) (sizes c) (c .args .turn .now) (c .pre .1) (c .args .v) (c .pre .2) _ (c .pre .3)
+
+mul-by-runs : tie.Need-mul-by-runs
+mul-by-runs c = omega (arith, sizes (c .before .before .before .before .before))
+
+add-by-runs : tie.Need-add-by-runs
+add-by-runs c = omega (arith, sizes (c .before .before .before .before .before .before))
+
+mul-by-runs-2 : tie.Need-mul-by-runs-2
+mul-by-runs-2 c = omega (arith, small (c .before .before .before .before .before .before), sizes (c .before .before .before .before .before .before))
+
+by-runs-requires : tie.Need-by-runs-requires
+by-runs-requires c κs =
+    let start = c .before .before .before .before .before .before in
+    let a = start .args in
+    column-asked (a .c) (a .s) (length (a .work .now)) (sizes start) (a .turn .now) (start .pre .1) (a .v) (start .pre .2) _ (start .pre .3)
+
+same-length : tie.Need-same-length
+same-length c = search needs
+
+returns : tie.Need-returns
+returns c =
+    let start = c .before .before .before .before .before .before .before .before .before in
+    let a = start .args in
+    column-done (a .c) (a .s) (length (a .work .now)) (sizes start) (a .turn .now) (start .pre .1) (a .v) (start .pre .2) _ (start .pre .3) (a .work .now) _
+    (c .before .before .by-runs .ensures)
+
+pub listed-column-spec : {M : Type 1} → statement M
+listed-column-spec =
+    tie.close
+    (tie.spec
+    mul-by-runs
+    add-by-runs
+    mul-by-runs-2
+    by-runs-requires
+    same-length
+    returns)
