@@ -1,18 +1,48 @@
-// The bit pass column after column: of short lifts, and of long ones. What these functions require, their callers in this crate and
-// minsum meet.
-mod long;
-
+// The bit pass column after column. What these functions require, their callers in this crate and minsum meet.
 use ldpc::Code;
-pub use long::long_pass;
 use sizes::Sizes;
 ghost use mathlib.Core.Path.{_≡_};
-ghost use Prim.Native.Nat.{_+_, _<_};
-ghost use lib.ListN.{length};
+ghost use mathlib.Core.Bool.{true};
+ghost use Prim.Native.Nat.{_+_, _<_, _≤_};
+ghost use lib.ListN.{length, take};
 ghost use Rattle.matrix.specs.Edges.{ColumnList};
 ghost use Rattle.messages.specs.Iteration.{totalPass, sendPass};
+ghost use Rattle.ldpc.specs.Choice.{made};
 ghost use Rattle.ldpc.specs.Code.{codeGraph};
 ghost use Rattle.by_columns.specs.Columns.{ColumnDone};
-ghost use Rattle.sizes.specs.Lent.{Ready, Turns, Sorted};
+ghost use Rattle.sizes.specs.Lent.{sizesOf, Ready, Turns, Sorted};
+
+// The base edges of a column in rising row: the first n of three.
+struct Listed {
+    edges: [u8; 3],
+    n: usize,
+}
+
+fn edges_of(c: Code, s: Sizes, sorted: &[u8], v: usize) -> Listed
+    requires { ⌜ (made c ≡ true) × (s ≡ sizesOf c) × Sorted c (now sorted) × (v < codeGraph c .shape .«k_b» + codeGraph c .shape .«m_b») ⌝ }
+    ensures { λ r. ⌜ (r .n ≤ length (r .edges)) × ColumnList (codeGraph c) v (take (r .n) (r .edges)) ⌝ }
+{
+    let k = s.info;
+    if v < k {
+        let at = 3 * v;
+        return Listed {
+            edges: [sorted[at], sorted[at + 1], sorted[at + 2]],
+            n: 3,
+        };
+    }
+    if v == k {
+        let b = (3 * k) as u8;
+        return Listed {
+            edges: [b, b + 2, b + 1],
+            n: 3,
+        };
+    }
+    let b = (3 * k + 2 * (v - k) + 1) as u8;
+    Listed {
+        edges: [b + 1, b, 0],
+        n: 2,
+    }
+}
 
 // A column whose base edges are lent, in rising row.
 fn listed_column(c: Code, s: Sizes, edges: &[u8], turn: &[u16], v: usize, work: &mut [f32])
@@ -23,49 +53,13 @@ fn listed_column(c: Code, s: Sizes, edges: &[u8], turn: &[u16], v: usize, work: 
     totals::column_pass(work, s.bits, 2 * s.bits + s.slots, z, v * z, edges, turn);
 }
 
-// An information column.
-fn info_column(c: Code, s: Sizes, sorted: &[u8], turn: &[u16], v: usize, work: &mut [f32])
-    requires { ⌜ Ready c s (length (now work)) × Sorted c (now sorted) × Turns c (now turn) × (v < codeGraph c .shape .«k_b») ⌝ }
-    ensures { λ _. ⌜ ColumnDone (codeGraph c) (c .z) v (now (work .entry)) (now (work .exit)) ⌝ }
-{
-    let at = 3 * v;
-    listed_column(c, s, &sorted[at..at + 3], turn, v, work);
-}
-
-// Column k_b: its base edges are of rows 0, m_b − 1 and m_b / 2.
-fn middle_column(c: Code, s: Sizes, turn: &[u16], work: &mut [f32])
-    requires { ⌜ Ready c s (length (now work)) × Turns c (now turn) ⌝ }
-    ensures { λ _. ⌜ ColumnDone (codeGraph c) (c .z) (codeGraph c .shape .«k_b») (now (work .entry)) (now (work .exit)) ⌝ }
-{
-    let k = s.info;
-    let b = (3 * k) as u8;
-    let edges: [u8; 3] = [b, b + 2, b + 1];
-    listed_column(c, s, &edges, turn, k, work);
-}
-
-// Column k_b + j, whose base edges are of rows j and j − 1.
-fn stair_column(c: Code, s: Sizes, turn: &[u16], j: usize, work: &mut [f32])
-    requires { ⌜ Ready c s (length (now work)) × Turns c (now turn) × (0 < j) × (j < codeGraph c .shape .«m_b») ⌝ }
-    ensures { λ _. ⌜ ColumnDone (codeGraph c) (c .z) (codeGraph c .shape .«k_b» + j) (now (work .entry)) (now (work .exit)) ⌝ }
-{
-    let k = s.info;
-    let b = (3 * k + 2 * j + 1) as u8;
-    let edges: [u8; 2] = [b + 1, b];
-    listed_column(c, s, &edges, turn, k + j, work);
-}
-
 fn column(c: Code, s: Sizes, sorted: &[u8], turn: &[u16], v: usize, work: &mut [f32])
     requires { ⌜ Ready c s (length (now work)) × Sorted c (now sorted) × Turns c (now turn) × (v < codeGraph c .shape .«k_b» + codeGraph c .shape .«m_b») ⌝ }
     ensures { λ _. ⌜ ColumnDone (codeGraph c) (c .z) v (now (work .entry)) (now (work .exit)) ⌝ }
 {
-    let k = s.info;
-    if v < k {
-        info_column(c, s, sorted, turn, v, work);
-    } else if v == k {
-        middle_column(c, s, turn, work);
-    } else {
-        stair_column(c, s, turn, v - k, work);
-    }
+    let l = edges_of(c, s, sorted, v);
+    let edges = l.edges;
+    listed_column(c, s, &edges[..l.n], turn, v, work);
 }
 
 // The totals, and what every bit sends to its checks.

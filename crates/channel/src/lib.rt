@@ -1,5 +1,7 @@
 // What Start writes: the readings become the channel, the totals and the messages to the checks. 01, "Start". With it the two
 // sizes that every call of a decode needs. What these functions require, their callers in this crate, word and decoder meet.
+mod spread;
+
 use ldpc::Code;
 use sizes::Sizes;
 ghost use mathlib.Core.Path.{_≡_};
@@ -73,7 +75,7 @@ fn put_messages(c: Code, s: Sizes, rx: &[f32], column: &[u8], turn: &[u16], work
 {
     put_channel(c, s, rx, work);
     segments::copy_run(work, s.bits, 0, s.bits);
-    minsum::spread_pass(c, s, column, turn, work);
+    spread::spread_pass(c, s, column, turn, work);
     fill(work, 2 * s.bits + s.slots, s.slots, 0.0);
 }
 

@@ -3,6 +3,7 @@ use mathlib.Core.Path.{_≡_, sym, ap, _∙_}
 use Prim.Native.Nat.{ℕ, _+_, _*_, _/_, _%_, _-_, _<_, _≤_}
 use native.Mathlib.Nat.{mul-le-mul-right, mul-add-div-right, div-eq-of-lt, add-zero, div-lt-iff-lt-mul}
 use native.Mathlib.Nat.{zero-add, mul-add-mod-self-right, mod-lt, mod-eq-of-lt, mod-add-mod, add-mod-mod, add-mod-right, div-add-mod'}
+use native.Mathlib.Decide.{decLt}
 use native.Mathlib.Omega.{arith}
 
 pub slot-lt : {b n z t : ℕ} → b < n → t < z → b * z + t < n * z
@@ -63,3 +64,19 @@ back-low j s z h k = mod-eq-of-lt (omega arith)
 
 pub back-high : (j s z : ℕ) → j < z → s < z → s ≤ j → (j + z - s) % z ≡ j - s
 back-high j s z h k l = let e : j + z - s ≡ (j - s) + z = omega arith in ap (λ (x : ℕ). x % z) e ∙ add-mod-right (j - s) z ∙ mod-eq-of-lt (omega arith)
+
+-- an offset turned on by s to j is j turned back
+pub turned-back : (t s j z : ℕ) → t < z → s < z → (t + s) % z ≡ j → t ≡ (j + z - s) % z
+turned-back t s j z h k e = by (decLt t (z - s))
+  where
+    by : Dec (t < z - s) → t ≡ (j + z - s) % z
+    by (yes l) =
+        let is : j ≡ t + s = sym e ∙ turned-low t s z l in
+        sym (back-high j s z (omega arith) k (omega arith) ∙ omega arith)
+    by (no l) =
+        let is : j ≡ t + s - z = sym e ∙ turned-high t s z h k (omega arith) in
+        sym (back-low j s z k (omega arith) ∙ omega arith)
+
+-- back by s below z and then on by s
+pub back-then-on-below : (j s z : ℕ) → j < z → s < z → ((j + z - s) % z + s) % z ≡ j
+back-then-on-below j s z h k = rw (mod-eq-of-lt k) at (back-then-on-by s j z h)

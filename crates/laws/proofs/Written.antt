@@ -58,24 +58,6 @@ module _ {A : Type 0} {d : A} {base : ℕ} where
       → (i : ℕ) → base + n ≤ i → getD w′ i d ≡ getD w i d
   high n W b i h = W .off i (λ s p e. omega (arith, b s p))
 
-  -- a run of a places, and then one of b places after it
-  pub runs : {f g : ℕ → A} {w w′ w″ : List A} (a b : ℕ) (h : ℕ → A) → Written d base (λ i. i < a) f w w′
-      → Written d (base + a) (λ i. i < b) g w′ w″ → ((i : ℕ) → i < a → f i ≡ h i) → ((i : ℕ) → i < b → g i ≡ h (a + i))
-      → Written d base (λ i. i < a + b) h w w″
-  runs {f} {g} {w} {w′} {w″} a b h W U e k =
-      record {
-        long = U .long ∙ W .long;
-        at = λ i l. at-place i l (decLt i a);
-        off = λ i l. U .off i (λ s p q. l (a + s) (omega arith) (omega arith)) ∙ W .off i (λ s p q. l s (omega arith) q);
-      }
-    where
-      at-place : (i : ℕ) → i < a + b → Dec (i < a) → getD w″ (base + i) d ≡ h i
-      at-place i l (yes p) = U .off (base + i) (λ s q r. omega arith) ∙ W .at i p ∙ e i p
-      at-place i l (no p) =
-          let r : base + a + (i - a) ≡ base + i = omega arith in
-          let r′ : a + (i - a) ≡ i = omega arith in
-          subst (λ (x : ℕ). getD w″ x d ≡ h i) r (U .at (i - a) (omega arith) ∙ k (i - a) (omega arith) ∙ ap h r′)
-
   -- the places of P that are not written hold what h says there already
   pub widen : {P Q : ℕ → Type 0} {h : ℕ → A} {w w′ : List A} → Written d base Q h w w′ → ((s : ℕ) → Q s → P s)
       → ((s : ℕ) → P s → Q s ⊎ (((Q s → ⊥) × (getD w (base + s) d ≡ h s)))) → Written d base P h w w′
@@ -127,6 +109,17 @@ module _ {A : Type 0} {d : A} {base : ℕ} {P Q : ℕ → Type 0} {f g : ℕ →
           let r : base + k + (s - k) ≡ base + s = omega arith in
           let r′ : k + (s - k) ≡ s = omega arith in
           subst (λ (x : ℕ). getD w″ x d ≡ f s) r (U .at (s - k) (omega arith) ∙ e (s - k) (omega arith) ∙ ap f r′)
+
+-- a run of a places, and then one of b places after it
+module _ {A : Type 0} {d : A} {base : ℕ} {f g : ℕ → A} {w w′ w″ : List A} (a b : ℕ) (h : ℕ → A) where
+  pub runs : Written d base (λ i. i < a) f w w′ → Written d (base + a) (λ i. i < b) g w′ w″ → ((i : ℕ) → i < a → f i ≡ h i)
+      → ((i : ℕ) → i < b → g i ≡ h (a + i)) → Written d base (λ i. i < a + b) h w w″
+  runs W U e k =
+      run-more a b (same W (λ s p. p) (λ s p. p) e) U k (λ s p. omega arith) (λ j l. omega arith) (λ s q. part s q (decLt s a))
+    where
+      part : (s : ℕ) → s < a + b → Dec (s < a) → (s < a) ⊎ Among a b s
+      part s q (yes p) = inl p
+      part s q (no p) = inr (omega arith, q)
 
 -- one place written over
 pub overwrite : {A : Type 0} {d : A} {base : ℕ} {P : ℕ → Type 0} {f g : ℕ → A} {w w′ : List A} (k : ℕ) (v : A) → Written d base P f w w′

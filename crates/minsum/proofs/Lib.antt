@@ -1,2 +1,2 @@
--- The laws of the passes. Assumes nothing.
-pub mod Turns
+-- The laws of the check pass. Assumes nothing.
+pub mod Rows

@@ -1,2 +1,2 @@
 -- The terms of the passes. Assumes nothing.
-pub mod Runs
+pub mod Rows

@@ -36,7 +36,7 @@ fn iterations(
     let done = from.iterations;
     let mut i: u16 = 0;
     while i < g {
-        minsum::iterate(c, s, order, start, column, turn, sorted, Code::ALPHA, work);
+        minsum::iterate(c, s, order, start, turn, sorted, Code::ALPHA, work);
         i += 1;
         if convergence::converged(c, s, order, start, column, turn, work) {
             return Reach {

@@ -1,4 +1,4 @@
--- A column that is turned goes in two runs; at a lift of 1 it is one number. Assumes nothing.
+-- A column that is turned goes in two runs; at a lift of 1 a copy is one number. Assumes nothing.
 use mathlib.Core.Path.{_≡_, ap, ap₂, subst, _∙_}
 use mathlib.Core.List.{List}
 use Prim.Native.Nat.{ℕ, _+_, _%_, _-_, _<_, _≤_}
@@ -15,36 +15,14 @@ use Rattle.slots.specs.Row.{Ran}
 place : (w : List Float) (i j : ℕ) → i ≡ j → getD w i nan ≡ getD w j nan
 place w i j e = ap (λ (x : ℕ). getD w x nan) e
 
--- one number written is a run of 1
-one : (at z : ℕ) (f : ℕ → Float) (w : List Float) (v : Float) → z ≡ 1 → at < length w → v ≡ f 0 → Ran at z f w (set w at v)
-one at z f w v e inside q =
-    subst (λ (x : ℕ). Ran at z f w (set w x v)) (add-zero at)
-    (store {P = λ s. s < 0} 0 v (none (λ s p. omega arith)) (omega arith) q (omega arith) (λ s p. omega arith) (λ s p n. absurd (n (omega arith))))
-
 module _ (s z : ℕ) (s-lt : s < z) where
-  pub added-one : (w : List Float) (at from : ℕ) → z ≡ 1 → at < length w
-      → Ran at z (λ j. add binary32 (reading w at j) (reading w from ((j + z - s) % z))) w
-      (set w at (add binary32 (getD w at nan) (getD w from nan)))
-  added-one w at from e inside =
-      one at z _ w _ e inside
-      (ap₂ (add binary32) (place w _ _ (omega arith)) (place w _ _ (omega (arith, mod-lt (0 + z - s) (lift)))))
-    where
-      lift : 0 < z
-      lift = omega arith
-
-  pub subtracted-one : (w : List Float) (at tot msg : ℕ) → z ≡ 1 → at < length w
-      → Ran at z (λ t. sub binary32 (reading w tot ((t + s) % z)) (reading w msg t)) w
-      (set w at (sub binary32 (getD w tot nan) (getD w msg nan)))
-  subtracted-one w at tot msg e inside =
-      one at z _ w _ e inside
-      (ap₂ (sub binary32) (place w _ _ (omega (arith, mod-lt (0 + s) (lift)))) (place w _ _ (omega arith)))
-    where
-      lift : 0 < z
-      lift = omega arith
-
+  -- at a lift of 1
   pub copied-one : (w : List Float) (at from : ℕ) → z ≡ 1 → at < length w
       → Ran at z (λ t. reading w from ((t + s) % z)) w (set w at (getD w from nan))
-  copied-one w at from e inside = one at z _ w _ e inside (place w _ _ (omega (arith, mod-lt (0 + s) (lift))))
+  copied-one w at from e inside =
+      subst (λ (x : ℕ). Ran at z (λ t. reading w from ((t + s) % z)) w (set w x (getD w from nan))) (add-zero at)
+      (store {P = λ i. i < 0} 0 _ (none (λ i p. omega arith)) (omega arith) (place w _ _ (omega (arith, mod-lt (0 + s) lift))) (omega arith)
+      (λ i p. omega arith) (λ i p n. absurd (n (omega arith))))
     where
       lift : 0 < z
       lift = omega arith

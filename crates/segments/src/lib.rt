@@ -1,6 +1,5 @@
 // Segments of the work memory: runs of numbers that are copied, added, subtracted. A column is turned in two runs, so that no bit
-// asks for a remainder; at a lift of 1 it is one number. What these functions require, their callers in totals, minsum and channel
-// meet.
+// asks for a remainder. What these functions require, their callers in totals, minsum and channel meet.
 ghost use Prim.Native.Nat.{_+_, _-_, _%_, _<_, _≤_};
 ghost use lib.ListN.{length};
 ghost use lib.Ieee.{add, sub, binary32};
@@ -19,7 +18,7 @@ pub fn copy_run(work: &mut [f32], at: usize, from: usize, n: usize)
     }
 }
 
-// The same of a column that is turned: offset t gets number (t + s) mod z.
+// The same of a column that is turned: offset t gets number (t + s) mod z. A lift of 1, the start of every short block, is one number.
 pub fn copy_turned(work: &mut [f32], at: usize, from: usize, s: usize, z: usize)
     requires { ⌜ (s < z) × (from + z ≤ at) × (at + z ≤ length (now work)) ⌝ }
     ensures { λ _. ⌜ Ran at z (λ t. reading (now (work .entry)) from ((t + s) % z)) (now (work .entry)) (now (work .exit)) ⌝ }
@@ -49,10 +48,6 @@ pub fn add_turned(work: &mut [f32], at: usize, from: usize, s: usize, z: usize)
     requires { ⌜ (s < z) × (at + z ≤ from) × (from + z ≤ length (now work)) ⌝ }
     ensures { λ _. ⌜ Ran at z (λ j. add binary32 (reading (now (work .entry)) at j) (reading (now (work .entry)) from ((j + z - s) % z))) (now (work .entry)) (now (work .exit)) ⌝ }
 {
-    if z == 1 {
-        work[at] = work[at] + work[from];
-        return;
-    }
     add_run(work, at, from + (z - s), s);
     add_run(work, at + s, from, z - s);
 }
@@ -74,10 +69,6 @@ pub fn subtract_turned(work: &mut [f32], at: usize, tot: usize, msg: usize, s: u
     requires { ⌜ (s < z) × (tot + z ≤ at) × (at + z ≤ msg) × (msg + z ≤ length (now work)) ⌝ }
     ensures { λ _. ⌜ Ran at z (λ t. sub binary32 (reading (now (work .entry)) tot ((t + s) % z)) (reading (now (work .entry)) msg t)) (now (work .entry)) (now (work .exit)) ⌝ }
 {
-    if z == 1 {
-        work[at] = work[tot] - work[msg];
-        return;
-    }
     subtract_run(work, at, tot + s, msg, z - s);
     subtract_run(work, at + (z - s), tot, msg + (z - s), s);
 }

@@ -15,12 +15,12 @@ use Rattle.laws.proofs.Slots.{slot-div, slot-mod, slot-is}
 use Rattle.laws.proofs.Written.{Among, run-more, low, high}
 use Rattle.messages.specs.Memory.{reading}
 use Rattle.slots.specs.Row.{Of, Ran}
-use Rattle.totals.specs.Joined.{joinedSlot, totalOver, Reach, Reaches, Place, offsetOf, totalAt, sentAt, lessTotal}
+use Rattle.totals.specs.Joined.{joinedSlot, totalOver, Fits, AllFit, Place, offsetOf, totalAt, sentAt, lessTotal}
 
 -- what is known of a base edge of the list, by its number
-pub edge-reach : (z at msg len : ℕ) (turn edges : List ℕ) → Reaches z at msg len turn edges → (i : ℕ) → i < length edges → (b : ℕ) → b ≡ getD edges i 0
-    → Reach z at msg len turn b
-edge-reach z at msg len turn edges R i h b e = subst (Reach z at msg len turn) (sym e) (R i h)
+pub edge-fits : (z at msg len : ℕ) (turn edges : List ℕ) → AllFit z at msg len turn edges → (i : ℕ) → i < length edges → (b : ℕ) → b ≡ getD edges i 0
+    → Fits z at msg len turn b
+edge-fits z at msg len turn edges R i h b e = subst (Fits z at msg len turn) (sym e) (R i h)
 
 -- one base edge more is added to the totals
 module _ (tot msg z : ℕ) (edges turn : List ℕ) (i : ℕ) (h : i < length edges) (before : tot + z ≤ msg) (w₀ w w′ : List Float) where
@@ -48,7 +48,7 @@ module _ (tot msg z : ℕ) (edges turn : List ℕ) (i : ℕ) (h : i < length edg
 
 -- one base edge more is sent
 module _ (at tot msg z len : ℕ) (edges turn : List ℕ) (i : ℕ) (h : i < length edges) (lift : 0 < z) (before : tot + z ≤ at)
-    (reach : Reaches z at msg len turn edges) (w₀ w w′ : List Float) where
+    (fits : AllFit z at msg len turn edges) (w₀ w w′ : List Float) where
   abbrev edge : ℕ
   edge = getD edges i 0
 
@@ -74,7 +74,7 @@ module _ (at tot msg z len : ℕ) (edges turn : List ℕ) (i : ℕ) (h : i < len
       below : (n : ℕ) → Of edges i z n → at + n < msg
       below n p =
           let is : n ≡ getD edges (p .index) 0 * z + n % z = slot-is n z _ (n % z) (sym (p .is)) refl in
-          omega (arith, reach (p .index) (omega (arith, p .inside)) .before, mod-lt n lift)
+          omega (arith, fits (p .index) (omega (arith, p .inside)) .before, mod-lt n lift)
 
       sent : (j : ℕ) → j < z → sub binary32 (reading w tot ((j + s) % z)) (reading w (msg + edge * z) j)
           ≡ sub binary32 (reading w₀ tot (((edge * z + j) % z + getD turn ((edge * z + j) / z) 0) % z)) (reading w₀ msg (edge * z + j))
@@ -87,7 +87,7 @@ module _ (at tot msg z len : ℕ) (edges turn : List ℕ) (i : ℕ) (h : i < len
 
 -- the channel as totals, the messages added, and what is sent
 module _ (bits msg z c : ℕ) (edges turn : List ℕ) (lift : 0 < z) (column : c + z ≤ bits) (far : bits + bits ≤ msg) (w w₁ w₂ w₃ : List Float)
-    (reach : Reaches z (bits + bits) msg (length w) turn edges)
+    (fits : AllFit z (bits + bits) msg (length w) turn edges)
     (C : Ran (bits + c) z (reading w c) w w₁)
     (A : Ran (bits + c) z (λ j. totalOver (reading w₁ msg) z turn j (reading w₁ (bits + c) j) edges) w₁ w₂)
     (S : Written nan (bits + bits) (Of edges (length edges) z) (lessTotal (bits + c) msg z turn w₂) w₂ w₃) where

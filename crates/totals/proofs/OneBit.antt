@@ -4,8 +4,7 @@ use mathlib.Core.Bool.{cond}
 use mathlib.Core.Logic.{inl, inr}
 use mathlib.Core.List.{List}
 use Prim.Native.Nat.{ℕ, _+_, _*_, _-_, _/_, _%_, _<_, _≤_}
-use native.Mathlib.Decide.{decLt}
-use native.Mathlib.Nat.{mod-lt, mod-eq-of-lt}
+use native.Mathlib.Nat.{mod-lt}
 use native.Mathlib.Omega.{arith}
 use borrow.Author.Tests.{lt-ltb, le-ltb}
 use lib.ListN.{length, getD, set, length-set}
@@ -15,26 +14,11 @@ use lib.Ieee.{Float, nan, add, sub, binary32}
 use Rattle.laws.specs.Range.{folded}
 use Rattle.laws.specs.Written.{Written, At}
 use Rattle.laws.proofs.Folded.{folded-ext}
-use Rattle.laws.proofs.Written.{Upto, low}
-use Rattle.laws.proofs.Slots.{slot-div, slot-mod, slot-is, turned-low, turned-high, back-low, back-high, back-then-on-by}
+use Rattle.laws.proofs.Written.{Upto, same, low}
+use Rattle.laws.proofs.Slots.{slot-div, slot-mod, slot-is, turned-back, back-then-on-below}
 use Rattle.messages.specs.Memory.{reading}
 use Rattle.slots.specs.Row.{Of}
-use Rattle.totals.specs.Joined.{joinedSlot, totalOver, Joins, Reaches, Place, offsetOf, totalAt, sentAt}
-
--- an offset turned on by s to j is j turned back
-turned-back : (t s j z : ℕ) → t < z → s < z → (t + s) % z ≡ j → t ≡ (j + z - s) % z
-turned-back t s j z h k e = by (decLt t (z - s))
-  where
-    by : Dec (t < z - s) → t ≡ (j + z - s) % z
-    by (yes l) =
-        let is : j ≡ t + s = sym e ∙ turned-low t s z l in
-        sym (back-high j s z (omega arith) k (omega arith) ∙ omega arith)
-    by (no l) =
-        let is : j ≡ t + s - z = sym e ∙ turned-high t s z h k (omega arith) in
-        sym (back-low j s z k (omega arith) ∙ omega arith)
-
-back-then-on : (j s z : ℕ) → j < z → s < z → ((j + z - s) % z + s) % z ≡ j
-back-then-on j s z h k = rw (mod-eq-of-lt k) at (back-then-on-by s j z h)
+use Rattle.totals.specs.Joined.{joinedSlot, totalOver, Joins, AllFit, Place, offsetOf, totalAt, sentAt}
 
 -- the slots that join the bit at offset j
 module _ (z j : ℕ) (edges turn : List ℕ) (j-lt : j < z) (turn-lt : (i : ℕ) → i < length edges → getD turn (getD edges i 0) 0 < z) where
@@ -60,7 +44,7 @@ module _ (z j : ℕ) (edges turn : List ℕ) (j-lt : j < z) (turn-lt : (i : ℕ)
       let l = mod-lt (j + z - getD turn b 0) q in
       let over : s / z ≡ b = ap (λ (x : ℕ). x / z) (p .is) ∙ slot-div b z _ l in
       let off : s % z ≡ (j + z - getD turn b 0) % z = ap (λ (x : ℕ). x % z) (p .is) ∙ slot-mod b z _ l in
-      rw (over, off) (back-then-on j (getD turn b 0) z j-lt (turn-lt (p .index) (p .inside)))
+      rw (over, off) (back-then-on-below j (getD turn b 0) z j-lt (turn-lt (p .index) (p .inside)))
 
   pub of-joins : (s : ℕ) → Of edges (length edges) z s → (s % z + getD turn (s / z) 0) % z ≡ j → Joins edges (length edges) z turn j s
   unfolding joinedSlot
@@ -76,17 +60,17 @@ module _ (z j : ℕ) (edges turn : List ℕ) (j-lt : j < z) (turn-lt : (i : ℕ)
 
 -- the bit's total is stored, and then its messages
 module _ (bits msg z c j : ℕ) (edges turn : List ℕ) (w w″ : List Float) (t : Float) (j-lt : j < z) (column : c + z ≤ bits)
-    (reach : Reaches z (bits + bits) msg (length w) turn edges) (long : bits + bits ≤ length w)
+    (fits : AllFit z (bits + bits) msg (length w) turn edges) (long : bits + bits ≤ length w)
     (is : t ≡ totalAt msg z turn c edges w j)
     (W : Written nan (bits + bits) (Joins edges (length edges) z turn j)
     (λ s. sub binary32 t (reading (set w (bits + (c + j)) t) msg s)) (set w (bits + (c + j)) t) w″) where
   turn-lt : (i : ℕ) → i < length edges → getD turn (getD edges i 0) 0 < z
-  turn-lt i h = reach i h .turn-lt
+  turn-lt i h = fits i h .turn-lt
 
   -- the messages to bits stand past what is written
   read : (s : ℕ) → Joins edges (length edges) z turn j s → reading (set w (bits + (c + j)) t) msg s ≡ reading w msg s
   read s p =
-      getD-set-other w (bits + (c + j)) (msg + s) t nan (λ e. omega (arith, reach (p .index) (p .inside) .before))
+      getD-set-other w (bits + (c + j)) (msg + s) t nan (λ e. omega (arith, fits (p .index) (p .inside) .before))
 
   at-total : (x : ℕ) → x ≡ c + j → getD w″ (bits + x) nan ≡ t
   at-total x e =
@@ -135,13 +119,20 @@ module _ (bits msg z c : ℕ) (edges turn : List ℕ) (lift : 0 < z) (column : c
   offset-lt x (inl p) = rw (lt-ltb x bits (omega (arith, p .1))) (omega (arith, p .0, p .1))
   offset-lt x (inr p) = rw (le-ltb x bits (p .0)) (mod-lt ((x - bits) % z + getD turn ((x - bits) / z) 0) lift)
 
-  module _ (len : ℕ) (reach : Reaches z (bits + bits) msg len turn edges) (far : bits + bits ≤ msg) (k : ℕ) {f : ℕ → Float} {w w′ : List Float}
+  -- at a lift of 1 the bit at offset 0 is the whole column
+  pub only-bit : {w w′ : List Float} → z ≡ 1 → Written nan bits (At (Place bits c 1 edges) (offsetOf bits c 1 turn) 0) (sentAt bits msg 1 turn c edges w) w w′
+      → Written nan bits (Place bits c z edges) (sentAt bits msg z turn c edges w) w w′
+  only-bit {w} {w′} e W =
+      same (subst (λ (x : ℕ). Written nan bits (At (Place bits c x edges) (offsetOf bits c x turn) 0) (sentAt bits msg x turn c edges w) w w′) (sym e) W)
+      (λ x p. p .among) (λ x p. record { among = p; has = omega (arith, offset-lt x p) }) (λ x p. refl)
+
+  module _ (len : ℕ) (fits : AllFit z (bits + bits) msg len turn edges) (far : bits + bits ≤ msg) (k : ℕ) {f : ℕ → Float} {w w′ : List Float}
       (W : Written nan bits (Upto (Place bits c z edges) (offsetOf bits c z turn) k) f w w′) where
     below-msg : (x : ℕ) → Place bits c z edges x → bits + x < msg
     below-msg x (inl p) = omega (arith, p .1)
     below-msg x (inr p) =
         let is : x - bits ≡ getD edges (p .1 .index) 0 * z + (x - bits) % z = slot-is (x - bits) z _ _ (sym (p .1 .is)) refl in
-        omega (arith, p .0, reach (p .1 .index) (p .1 .inside) .before, mod-lt (x - bits) lift)
+        omega (arith, p .0, fits (p .1 .index) (p .1 .inside) .before, mod-lt (x - bits) lift)
 
     messages-kept : (s : ℕ) → reading w′ msg s ≡ reading w msg s
     messages-kept s = W .off (msg + s) (λ x p e. omega (arith, below-msg x (p .among)))

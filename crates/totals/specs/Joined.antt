@@ -27,14 +27,14 @@ pub record Joins (l : List ℕ) (n z : ℕ) (turn : List ℕ) (j s : ℕ) : Type
   pub is : s ≡ joinedSlot z turn j (getD l index 0)
 
 -- of a base edge: its turn is listed, and its messages stand between two places and an end
-pub record Reach (z at msg end : ℕ) (turn : List ℕ) (b : ℕ) : Type 0 where
+pub record Fits (z at msg end : ℕ) (turn : List ℕ) (b : ℕ) : Type 0 where
   pub turn-there : b < length turn
   pub turn-lt : getD turn b 0 < z
   pub before : at + (b * z + z) ≤ msg
   pub inside : msg + (b * z + z) ≤ end
 
-abbrev pub Reaches : ℕ → ℕ → ℕ → ℕ → List ℕ → List ℕ → Type 0
-Reaches z at msg end turn l = (i : ℕ) → i < length l → Reach z at msg end turn (getD l i 0)
+abbrev pub AllFit : ℕ → ℕ → ℕ → ℕ → List ℕ → List ℕ → Type 0
+AllFit z at msg end turn l = (i : ℕ) → i < length l → Fits z at msg end turn (getD l i 0)
 
 -- the places of a column that begins at c, with the base edges l
 abbrev pub Place : ℕ → ℕ → ℕ → List ℕ → ℕ → Type 0

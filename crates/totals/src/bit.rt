@@ -7,7 +7,7 @@ ghost use lib.ListN.{length, getD};
 ghost use lib.Ieee.{nan, sub, binary32};
 ghost use Rattle.laws.specs.Written.{Written};
 ghost use Rattle.messages.specs.Memory.{reading};
-ghost use Rattle.totals.specs.Joined.{totalOver, Joins, Reaches};
+ghost use Rattle.totals.specs.Joined.{totalOver, Joins, AllFit};
 
 // The channel value at place v, and the messages over the base edges that join its bit, added in their order.
 pub fn bit_total(
@@ -19,7 +19,7 @@ pub fn bit_total(
     edges: &[u8],
     turn: &[u16],
 ) -> f32
-    requires { ⌜ (j < z) × (z ≤ 324) × (v < length (now work)) × Reaches z 0 msg (length (now work)) (now turn) (now edges) ⌝ }
+    requires { ⌜ (j < z) × (z ≤ 324) × (v < length (now work)) × AllFit z 0 msg (length (now work)) (now turn) (now edges) ⌝ }
     ensures { λ r. ⌜ r ≡ totalOver (reading (now (work .entry)) msg) z (now (turn .entry)) j (getD (now (work .entry)) v nan) (now (edges .entry)) ⌝ }
 {
     let mut sum = work[v];
@@ -44,7 +44,7 @@ pub fn bit_send(
     edges: &[u8],
     turn: &[u16],
 )
-    requires { ⌜ (j < z) × (z ≤ 324) × Reaches z at msg (length (now work)) (now turn) (now edges) ⌝ }
+    requires { ⌜ (j < z) × (z ≤ 324) × AllFit z at msg (length (now work)) (now turn) (now edges) ⌝ }
     ensures { λ _. ⌜ Written nan at (Joins (now (edges .entry)) (length (now (edges .entry))) z (now (turn .entry)) j) (λ s. sub binary32 total (reading (now (work .entry)) msg s)) (now (work .entry)) (now (work .exit)) ⌝ }
 {
     let mut i = 0;

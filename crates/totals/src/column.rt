@@ -1,14 +1,14 @@
-// A column, bit after bit.
+// A column bit by bit, for short lifts: runs of so few numbers would not pay.
 use crate::bit::bit_send;
 use crate::bit::bit_total;
 ghost use Prim.Native.Nat.{_+_, _<_, _≤_};
 ghost use lib.ListN.{length};
 ghost use lib.Ieee.{nan};
 ghost use Rattle.laws.specs.Written.{Written, At};
-ghost use Rattle.totals.specs.Joined.{Reaches, Place, offsetOf, sentAt};
+ghost use Rattle.totals.specs.Joined.{AllFit, Place, offsetOf, sentAt};
 
 // The bit at offset j: its total goes to N + its place, and its messages from 2 N on.
-fn bit_pass(
+pub fn bit_pass(
     work: &mut [f32],
     bits: usize,
     msg: usize,
@@ -18,7 +18,7 @@ fn bit_pass(
     edges: &[u8],
     turn: &[u16],
 )
-    requires { ⌜ (j < z) × (z ≤ 324) × (column + z ≤ bits) × (bits ≤ 19440) × (bits + bits ≤ length (now work)) × Reaches z (bits + bits) msg (length (now work)) (now turn) (now edges) ⌝ }
+    requires { ⌜ (j < z) × (z ≤ 324) × (column + z ≤ bits) × (bits ≤ 19440) × (bits + bits ≤ length (now work)) × AllFit z (bits + bits) msg (length (now work)) (now turn) (now edges) ⌝ }
     ensures { λ _. ⌜ Written nan bits (At (Place bits column z (now (edges .entry))) (offsetOf bits column z (now (turn .entry))) j) (sentAt bits msg z (now (turn .entry)) column (now (edges .entry)) (now (work .entry))) (now (work .entry)) (now (work .exit)) ⌝ }
 {
     let total = bit_total(work, column + j, msg, z, j, edges, turn);
@@ -26,8 +26,8 @@ fn bit_pass(
     bit_send(work, total, bits + bits, msg, z, j, edges, turn);
 }
 
-// Every bit of a column that begins at `column`.
-pub fn column_pass(
+// Every bit of a column that begins at `column`, one after the other.
+pub fn by_bits(
     work: &mut [f32],
     bits: usize,
     msg: usize,
@@ -36,7 +36,7 @@ pub fn column_pass(
     edges: &[u8],
     turn: &[u16],
 )
-    requires { ⌜ (0 < z) × (z ≤ 324) × (column + z ≤ bits) × (bits ≤ 19440) × (bits + bits ≤ msg) × (bits + bits ≤ length (now work)) × Reaches z (bits + bits) msg (length (now work)) (now turn) (now edges) ⌝ }
+    requires { ⌜ (0 < z) × (z ≤ 324) × (column + z ≤ bits) × (bits ≤ 19440) × (bits + bits ≤ msg) × (bits + bits ≤ length (now work)) × AllFit z (bits + bits) msg (length (now work)) (now turn) (now edges) ⌝ }
     ensures { λ _. ⌜ Written nan bits (Place bits column z (now (edges .entry))) (sentAt bits msg z (now (turn .entry)) column (now (edges .entry)) (now (work .entry))) (now (work .entry)) (now (work .exit)) ⌝ }
 {
     let mut j = 0;

@@ -6,11 +6,11 @@ ghost use lib.Ieee.{nan};
 ghost use Rattle.laws.specs.Written.{Written};
 ghost use Rattle.messages.specs.Memory.{reading};
 ghost use Rattle.slots.specs.Row.{Of, Ran};
-ghost use Rattle.totals.specs.Joined.{totalOver, lessTotal, Reaches, Place, sentAt};
+ghost use Rattle.totals.specs.Joined.{totalOver, lessTotal, AllFit, Place, sentAt};
 
 // Adds the messages over the base edges to the totals from `tot` on.
 fn add_edges(work: &mut [f32], tot: usize, msg: usize, z: usize, edges: &[u8], turn: &[u16])
-    requires { ⌜ (z ≤ 324) × (tot + z ≤ msg) × Reaches z 0 msg (length (now work)) (now turn) (now edges) ⌝ }
+    requires { ⌜ (z ≤ 324) × (tot + z ≤ msg) × AllFit z 0 msg (length (now work)) (now turn) (now edges) ⌝ }
     ensures { λ _. ⌜ Ran tot z (λ j. totalOver (reading (now (work .entry)) msg) z (now (turn .entry)) j (reading (now (work .entry)) tot j) (now (edges .entry))) (now (work .entry)) (now (work .exit)) ⌝ }
 {
     let mut i = 0;
@@ -31,7 +31,7 @@ fn send_edges(
     edges: &[u8],
     turn: &[u16],
 )
-    requires { ⌜ (0 < z) × (z ≤ 324) × (tot + z ≤ at) × Reaches z at msg (length (now work)) (now turn) (now edges) ⌝ }
+    requires { ⌜ (0 < z) × (z ≤ 324) × (tot + z ≤ at) × AllFit z at msg (length (now work)) (now turn) (now edges) ⌝ }
     ensures { λ _. ⌜ Written nan at (Of (now (edges .entry)) (length (now (edges .entry))) z) (lessTotal tot msg z (now (turn .entry)) (now (work .entry))) (now (work .entry)) (now (work .exit)) ⌝ }
 {
     let mut i = 0;
@@ -43,7 +43,7 @@ fn send_edges(
     }
 }
 
-// Every bit of a column that begins at `column`.
+// Every bit of a column that begins at `column`, edge by edge.
 pub fn by_runs(
     work: &mut [f32],
     bits: usize,
@@ -53,7 +53,7 @@ pub fn by_runs(
     edges: &[u8],
     turn: &[u16],
 )
-    requires { ⌜ (0 < z) × (z ≤ 324) × (column + z ≤ bits) × (bits ≤ 19440) × (bits + bits ≤ msg) × (bits + bits ≤ length (now work)) × Reaches z (bits + bits) msg (length (now work)) (now turn) (now edges) ⌝ }
+    requires { ⌜ (0 < z) × (z ≤ 324) × (column + z ≤ bits) × (bits ≤ 19440) × (bits + bits ≤ msg) × (bits + bits ≤ length (now work)) × AllFit z (bits + bits) msg (length (now work)) (now turn) (now edges) ⌝ }
     ensures { λ _. ⌜ Written nan bits (Place bits column z (now (edges .entry))) (sentAt bits msg z (now (turn .entry)) column (now (edges .entry)) (now (work .entry))) (now (work .entry)) (now (work .exit)) ⌝ }
 {
     let tot = bits + column;

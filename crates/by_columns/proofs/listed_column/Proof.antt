@@ -4,7 +4,7 @@ use native.Mathlib.Omega.{arith}
 use borrow.Author.Needs.{needs}
 use lib.ListN.{length}
 use Rattle.sizes.proofs.Lent.{Known, known}
-use Rattle.by_columns.proofs.Listed.{column-within, column-asked, column-done}
+use Rattle.by_columns.proofs.ColumnLists.{column-within, column-asked, column-done}
 use Rattle.by_columns.proofs.listed_column.Statement.{statement}
 use Rattle.by_columns.proofs.listed_column.Tie as tie
 

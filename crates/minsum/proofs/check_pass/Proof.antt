@@ -9,7 +9,7 @@ use Rattle.ldpc.proofs.CodeEdges.{code-simple}
 use Rattle.matrix.specs.Edges.{edgeRow}
 use Rattle.messages.specs.Memory.{slotsOf, toChecks, toBits, reading}
 use Rattle.sizes.proofs.Lent.{known, ready-still}
-use Rattle.minsum.proofs.Turns.{check-turn, check-done}
+use Rattle.minsum.proofs.Rows.{check-turn, check-done}
 use Rattle.messages.specs.Iteration.{toBit}
 use Rattle.ldpc.specs.Code.{codeGraph}
 use Rattle.minsum.proofs.check_pass.Statement.{statement}

@@ -10,8 +10,8 @@ check-pass-requires c κs = search needs
 
 bit-pass-requires : tie.Need-bit-pass-requires
 bit-pass-requires c κs =
-    let start = c .before .before .before .before .before .before .before .before .before .before .before in
-    (ready-still (start .pre .0) (c .before .before .before .check-pass .kept .1 .1 .1 .1 .1 .0), start .pre .1 .0, start .pre .2, start .pre .3)
+    let start = c .before .before .before .before .before .before .before .before .before .before in
+    (ready-still (start .pre .0) (c .before .before .before .check-pass .kept .1 .1 .1 .1 .1 .0), start .pre .3, start .pre .2)
 
 same-length : tie.Need-same-length
 same-length c = search needs

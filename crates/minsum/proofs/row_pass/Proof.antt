@@ -2,7 +2,7 @@
 use native.Mathlib.Omega.{arith}
 use borrow.Author.Needs.{needs}
 use lib.ListN.{length}
-use Rattle.minsum.proofs.Turns.{row-told}
+use Rattle.minsum.proofs.Rows.{row-told}
 use Rattle.ldpc.specs.Code.{codeGraph}
 use Rattle.sizes.proofs.Lent.{known, row-in, part-of, row-asked}
 use Rattle.minsum.proofs.row_pass.Tie as tie

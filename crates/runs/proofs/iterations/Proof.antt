@@ -23,7 +23,7 @@ loop-holds c = (omega arith, refl, none-done alpha (c .before .before .before .b
 iterate-requires : tie.Need-iterate-requires Inv-loop μ-loop
 iterate-requires c κs =
     let start = c .before .before .before .before .before .before .before .before .before in
-    (ready-still (start .pre .0 .0) (c .before .before .loop .inv .1), start .pre .0 .1, start .pre .0 .2, start .pre .0 .3)
+    (ready-still (start .pre .0 .0) (c .before .before .loop .inv .1), start .pre .0 .1, start .pre .0 .2 .1, start .pre .0 .3)
 
 add-i : tie.Need-add-i Inv-loop μ-loop
 add-i c = omega (arith, c .before .before .before .before .loop-test .taken)
@@ -31,13 +31,13 @@ add-i c = omega (arith, c .before .before .before .before .loop-test .taken)
 converged-requires : tie.Need-converged-requires Inv-loop μ-loop
 converged-requires c κs =
     let start = c .before .before .before .before .before .before .before .before .before .before .before .before .before in
-    (ready-still (start .pre .0 .0) (c .before .before .before .iterate .kept .1 .1 .1 .1 .1 .1 .1 .1 .0 ∙ c .before .before .before .before .before .before .loop .inv .1), start .pre .0 .1, start .pre .0 .2)
+    (ready-still (start .pre .0 .0) (c .before .before .before .iterate .kept .1 .1 .1 .1 .1 .1 .1 .0 ∙ c .before .before .before .before .before .before .loop .inv .1), start .pre .0 .1, start .pre .0 .2)
 
 add-t20 : tie.Need-add-t20 Inv-loop μ-loop
 add-t20 c = omega (arith, c .before .before .before .before .before .before .before .loop-test .taken, c .before .before .before .before .before .before .before .before .before .before .before .before .before .before .before .pre .1 .1)
 
 same-length : tie.Need-same-length Inv-loop μ-loop
-same-length c = c .before .before .before .before .before .iterate .kept .1 .1 .1 .1 .1 .1 .1 .1 .0 ∙ c .before .before .before .before .before .before .before .before .loop .inv .1
+same-length c = c .before .before .before .before .before .iterate .kept .1 .1 .1 .1 .1 .1 .1 .0 ∙ c .before .before .before .before .before .before .before .before .loop .inv .1
 
 returns : tie.Need-returns Inv-loop μ-loop
 unfolding Ieee.ofBits
@@ -67,7 +67,7 @@ loop-again c =
     let h = c .before .before .before .before .before .before .before .loop-test .taken in
     let e = step alpha code (start .args .work .now) (from .iterations) i (at-loop .loop .work) _ false (at-loop .loop .inv .2)
     (c .before .before .before .before .before .iterate .ensures) (sym (c .if1 .left) ∙ c .before .converged .ensures) in
-    (omega (arith, h), c .before .before .before .before .before .iterate .kept .1 .1 .1 .1 .1 .1 .1 .1 .0 ∙ at-loop .loop .inv .1, e)
+    (omega (arith, h), c .before .before .before .before .before .iterate .kept .1 .1 .1 .1 .1 .1 .1 .0 ∙ at-loop .loop .inv .1, e)
 
 add-t21 : tie.Need-add-t21 Inv-loop μ-loop
 add-t21 c = omega (arith, c .before .before .before .before .before .before .before .before .pre .1 .1)

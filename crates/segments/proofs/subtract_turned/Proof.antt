@@ -1,35 +1,8 @@
 -- `subtract_turned` meets its contract. Assumes nothing.
-use native.Mathlib.Omega.{arith}
 use borrow.Author.Needs.{needs}
-use Rattle.segments.proofs.Turned.{subtracted-one, subtracted-turned}
+use Rattle.segments.proofs.Turned.{subtracted-turned}
 use Rattle.segments.proofs.subtract_turned.Statement.{statement}
 use Rattle.segments.proofs.subtract_turned.Tie as tie
-
-mul-work : tie.Need-mul-work
-mul-work c = search needs
-
-slice-read-work : tie.Need-slice-read-work
-slice-read-work c = search needs
-
-mul-work-2 : tie.Need-mul-work-2
-mul-work-2 c = search needs
-
-slice-read-work-2 : tie.Need-slice-read-work-2
-slice-read-work-2 c = search needs
-
-mul-work-3 : tie.Need-mul-work-3
-mul-work-3 c = search needs
-
-slice-write-work : tie.Need-slice-write-work
-slice-write-work c = search needs
-
-same-length : tie.Need-same-length
-same-length c = search needs
-
-returns : tie.Need-returns
-returns c =
-    let start = c .before .before .before .before in
-    subtracted-one (start .args .s) (start .args .z) (start .pre .0) (start .args .work .now) (start .args .at) (start .args .tot) (start .args .msg) (c .before .before .if1 .taken) (omega arith)
 
 add-subtract-run : tie.Need-add-subtract-run
 add-subtract-run c = search needs
@@ -55,26 +28,18 @@ add-subtract-run-3 c = search needs
 subtract-run-requires-2 : tie.Need-subtract-run-requires-2
 subtract-run-requires-2 c κs = search needs
 
-same-length-2 : tie.Need-same-length-2
-same-length-2 c = search needs
+same-length : tie.Need-same-length
+same-length c = search needs
 
-returns-2 : tie.Need-returns-2
-returns-2 c =
-    let start = c .before .before .before .before .before .before .before .before .before .before in
+returns : tie.Need-returns
+returns c =
+    let start = c .before .before .before .before .before .before .before .before .before in
     subtracted-turned (start .args .s) (start .args .z) (start .pre .0) (start .args .work .now) _ _ (start .args .at) (start .args .tot) (start .args .msg) (start .pre .1) (start .pre .2) (c .before .before .before .before .before .before .subtract-run .ensures) (c .before .before .subtract-run2 .ensures)
 
 pub subtract-turned-spec : {M : Type 1} → statement M
 subtract-turned-spec =
     tie.close
     (tie.spec
-    mul-work
-    slice-read-work
-    mul-work-2
-    slice-read-work-2
-    mul-work-3
-    slice-write-work
-    same-length
-    returns
     add-subtract-run
     sub-subtract-run
     subtract-run-requires
@@ -83,5 +48,5 @@ subtract-turned-spec =
     sub-subtract-run-3
     add-subtract-run-3
     subtract-run-requires-2
-    same-length-2
-    returns-2)
+    same-length
+    returns)

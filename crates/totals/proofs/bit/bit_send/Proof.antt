@@ -10,7 +10,7 @@ use lib.Ieee.{Float, nan, sub, binary32}
 use Rattle.laws.specs.Written.{Written}
 use Rattle.laws.proofs.Written.{none, store}
 use Rattle.messages.specs.Memory.{reading}
-use Rattle.totals.specs.Joined.{joinedSlot, Joins, Reach, Reaches}
+use Rattle.totals.specs.Joined.{joinedSlot, Joins, Fits, AllFit}
 use Rattle.totals.proofs.OneBit.{joined-lt}
 use Rattle.totals.proofs.bit.bit_send.Statement.{statement}
 use Rattle.totals.proofs.bit.bit_send.Tie as tie
@@ -21,11 +21,11 @@ SentUpto at msg z j edges turn total i work₀ work =
 
 -- the turn i stores at the slot of its base edge
 module _ (work₀ work : List Float) (at msg z j : ℕ) (edges turn : List ℕ) (total : Float) (i s : ℕ) (h : i < length edges) (j-lt : j < z)
-    (is : s ≡ joinedSlot z turn j (getD edges i 0)) (reach : Reaches z at msg (length work₀) turn edges) where
+    (is : s ≡ joinedSlot z turn j (getD edges i 0)) (fits : AllFit z at msg (length work₀) turn edges) where
   -- the messages are past all that is written
   slot-end : (k : ℕ) → k < length edges → (x : ℕ) → x ≡ joinedSlot z turn j (getD edges k 0) → at + x < msg
   slot-end k l x e =
-      omega (arith, joined-lt z j edges turn j-lt (λ i h. reach i h .turn-lt) (getD edges k 0), reach k l .before)
+      omega (arith, joined-lt z j edges turn j-lt (λ i h. fits i h .turn-lt) (getD edges k 0), fits k l .before)
 
   back : (x : ℕ) → Joins edges (i + 1) z turn j x → (x ≡ s → ⊥) → Joins edges i z turn j x
   back x p n = by (ℕ-discrete (p .index) i)
@@ -37,7 +37,7 @@ module _ (work₀ work : List Float) (at msg z j : ℕ) (edges turn : List ℕ) 
   turn-on : SentUpto at msg z j edges turn total i work₀ work
       → SentUpto at msg z j edges turn total (i + 1) work₀ (set work (at + s) (sub binary32 total (getD work (msg + s) nan)))
   turn-on W =
-      store s _ W (omega (arith, slot-end i h s is, reach i h .inside))
+      store s _ W (omega (arith, slot-end i h s is, fits i h .inside))
       (ap (sub binary32 total) (W .off (msg + s) (λ x p e. omega (arith, slot-end (p .index) (omega (arith, p .inside)) x (p .is)))))
       (record { index = i; inside = omega arith; is = is })
       (λ x p. record { index = p .index; inside = omega (arith, p .inside); is = p .is })
@@ -60,7 +60,7 @@ wide8-requires c κs = search needs
 
 -- what is known of the base edge of a turn
 reached : (c : tie.After-wide8 Inv-loop μ-loop) → let a = c .before .before .before .before .before .before .before .args in
-    Reach (a .z) (a .at) (a .msg) (length (a .work .now)) (a .turn .now) (getD (a .edges .now) (c .before .before .before .loop .i) 0)
+    Fits (a .z) (a .at) (a .msg) (length (a .work .now)) (a .turn .now) (getD (a .edges .now) (c .before .before .before .loop .i) 0)
 reached c = c .before .before .before .before .before .before .before .pre .2 (c .before .before .before .loop .i) (c .before .before .loop-test .taken)
 
 mul-edge-slot : tie.Need-mul-edge-slot Inv-loop μ-loop

@@ -10,7 +10,7 @@ use lib.Ieee.{Float, nan, add, binary32}
 use Rattle.laws.specs.Range.{folded}
 use Rattle.laws.proofs.Folded.{folded-more}
 use Rattle.messages.specs.Memory.{reading}
-use Rattle.totals.specs.Joined.{joinedSlot, totalOver, Reach}
+use Rattle.totals.specs.Joined.{joinedSlot, totalOver, Fits}
 use Rattle.totals.proofs.OneBit.{joined-lt}
 use Rattle.totals.proofs.bit.bit_total.Statement.{statement}
 use Rattle.totals.proofs.bit.bit_total.Tie as tie
@@ -47,7 +47,7 @@ wide8-requires c κs = search needs
 
 -- what is known of the base edge of a turn
 reached : (c : tie.After-wide8 Inv-loop μ-loop) → let a = c .before .before .before .before .before .before .before .before .args in
-    Reach (a .z) 0 (a .msg) (length (a .work .now)) (a .turn .now) (getD (a .edges .now) (c .before .before .before .loop .i) 0)
+    Fits (a .z) 0 (a .msg) (length (a .work .now)) (a .turn .now) (getD (a .edges .now) (c .before .before .before .loop .i) 0)
 reached c = c .before .before .before .before .before .before .before .before .pre .3 (c .before .before .before .loop .i) (c .before .before .loop-test .taken)
 
 mul-edge-slot : tie.Need-mul-edge-slot Inv-loop μ-loop

@@ -9,7 +9,7 @@ use Rattle.laws.specs.Range.{folded}
 use Rattle.messages.specs.Memory.{reading}
 use Rattle.slots.specs.Row.{Ran}
 use Rattle.totals.specs.Joined.{totalOver}
-use Rattle.totals.proofs.ByRuns.{edge-reach, total-more}
+use Rattle.totals.proofs.ByRuns.{edge-fits, total-more}
 use Rattle.totals.proofs.long.add_edges.Statement.{statement}
 use Rattle.totals.proofs.long.add_edges.Tie as tie
 
@@ -33,22 +33,22 @@ wide8-requires c κs = search needs
 mul-add-turned : tie.Need-mul-add-turned Inv-loop μ-loop
 mul-add-turned c =
     let a = c .before .before .before .before .before .before .before .before .args in
-    omega (arith, edge-reach (a .z) 0 (a .msg) (length (a .work .now)) (a .turn .now) (a .edges .now) (c .before .before .before .before .before .before .before .before .pre .2) (c .before .before .before .before .loop .i) (c .before .before .before .loop-test .taken) (c .before .wide8 .result) (c .before .wide8 .ensures))
+    omega (arith, edge-fits (a .z) 0 (a .msg) (length (a .work .now)) (a .turn .now) (a .edges .now) (c .before .before .before .before .before .before .before .before .pre .2) (c .before .before .before .before .loop .i) (c .before .before .before .loop-test .taken) (c .before .wide8 .result) (c .before .wide8 .ensures))
 
 add-add-turned : tie.Need-add-add-turned Inv-loop μ-loop
 add-add-turned c =
     let a = c .before .before .before .before .before .before .before .before .args in
-    omega (arith, edge-reach (a .z) 0 (a .msg) (length (a .work .now)) (a .turn .now) (a .edges .now) (c .before .before .before .before .before .before .before .before .pre .2) (c .before .before .before .before .loop .i) (c .before .before .before .loop-test .taken) (c .before .wide8 .result) (c .before .wide8 .ensures))
+    omega (arith, edge-fits (a .z) 0 (a .msg) (length (a .work .now)) (a .turn .now) (a .edges .now) (c .before .before .before .before .before .before .before .before .pre .2) (c .before .before .before .before .loop .i) (c .before .before .before .loop-test .taken) (c .before .wide8 .result) (c .before .wide8 .ensures))
 
 mul-wide16 : tie.Need-mul-wide16 Inv-loop μ-loop
 mul-wide16 c =
     let a = c .before .before .before .before .before .before .before .before .args in
-    omega (arith, edge-reach (a .z) 0 (a .msg) (length (a .work .now)) (a .turn .now) (a .edges .now) (c .before .before .before .before .before .before .before .before .pre .2) (c .before .before .before .before .loop .i) (c .before .before .before .loop-test .taken) (c .before .wide8 .result) (c .before .wide8 .ensures))
+    omega (arith, edge-fits (a .z) 0 (a .msg) (length (a .work .now)) (a .turn .now) (a .edges .now) (c .before .before .before .before .before .before .before .before .pre .2) (c .before .before .before .before .loop .i) (c .before .before .before .loop-test .taken) (c .before .wide8 .result) (c .before .wide8 .ensures))
 
 shared-slice-read-wide16 : tie.Need-shared-slice-read-wide16 Inv-loop μ-loop
 shared-slice-read-wide16 c =
     let a = c .before .before .before .before .before .before .before .before .before .args in
-    omega (arith, edge-reach (a .z) 0 (a .msg) (length (a .work .now)) (a .turn .now) (a .edges .now) (c .before .before .before .before .before .before .before .before .before .pre .2) (c .before .before .before .before .before .loop .i) (c .before .before .before .before .loop-test .taken) (c .before .before .wide8 .result) (c .before .before .wide8 .ensures))
+    omega (arith, edge-fits (a .z) 0 (a .msg) (length (a .work .now)) (a .turn .now) (a .edges .now) (c .before .before .before .before .before .before .before .before .before .pre .2) (c .before .before .before .before .before .loop .i) (c .before .before .before .before .loop-test .taken) (c .before .before .wide8 .result) (c .before .before .wide8 .ensures))
 
 wide16-requires : tie.Need-wide16-requires Inv-loop μ-loop
 wide16-requires c κs = search needs
@@ -57,7 +57,7 @@ add-turned-requires : tie.Need-add-turned-requires Inv-loop μ-loop
 add-turned-requires c κs =
     let start = c .before .before .before .before .before .before .before .before .before .before in
     let a = start .args in
-    let r = edge-reach (a .z) 0 (a .msg) (length (a .work .now)) (a .turn .now) (a .edges .now) (start .pre .2) (c .before .before .before .before .before .before .loop .i) (c .before .before .before .before .before .loop-test .taken) (c .before .before .before .wide8 .result) (c .before .before .before .wide8 .ensures) in
+    let r = edge-fits (a .z) 0 (a .msg) (length (a .work .now)) (a .turn .now) (a .edges .now) (start .pre .2) (c .before .before .before .before .before .before .loop .i) (c .before .before .before .before .before .loop-test .taken) (c .before .before .before .wide8 .result) (c .before .before .before .wide8 .ensures) in
     (omega (arith, r .turn-lt, c .wide16 .ensures), omega (arith, start .pre .1), omega (arith, r .inside, c .before .before .before .before .before .before .loop .inv .1 .long))
 
 add-i : tie.Need-add-i Inv-loop μ-loop

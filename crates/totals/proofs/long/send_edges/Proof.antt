@@ -10,7 +10,7 @@ use Rattle.laws.proofs.Written.{none}
 use Rattle.messages.specs.Memory.{reading}
 use Rattle.slots.specs.Row.{Of, Ran}
 use Rattle.totals.specs.Joined.{lessTotal}
-use Rattle.totals.proofs.ByRuns.{edge-reach, send-more}
+use Rattle.totals.proofs.ByRuns.{edge-fits, send-more}
 use Rattle.totals.proofs.long.send_edges.Statement.{statement}
 use Rattle.totals.proofs.long.send_edges.Tie as tie
 
@@ -33,27 +33,27 @@ wide8-requires c κs = search needs
 mul-s : tie.Need-mul-s Inv-loop μ-loop
 mul-s c =
     let a = c .before .before .before .before .before .before .before .args in
-    omega (arith, edge-reach (a .z) (a .at) (a .msg) (length (a .work .now)) (a .turn .now) (a .edges .now) (c .before .before .before .before .before .before .before .pre .3) (c .before .before .before .loop .i) (c .before .before .loop-test .taken) (c .wide8 .result) (c .wide8 .ensures))
+    omega (arith, edge-fits (a .z) (a .at) (a .msg) (length (a .work .now)) (a .turn .now) (a .edges .now) (c .before .before .before .before .before .before .before .pre .3) (c .before .before .before .loop .i) (c .before .before .loop-test .taken) (c .wide8 .result) (c .wide8 .ensures))
 
 add-subtract-turned : tie.Need-add-subtract-turned Inv-loop μ-loop
 add-subtract-turned c =
     let a = c .before .before .before .before .before .before .before .before .args in
-    omega (arith, edge-reach (a .z) (a .at) (a .msg) (length (a .work .now)) (a .turn .now) (a .edges .now) (c .before .before .before .before .before .before .before .before .pre .3) (c .before .before .before .before .loop .i) (c .before .before .before .loop-test .taken) (c .before .wide8 .result) (c .before .wide8 .ensures))
+    omega (arith, edge-fits (a .z) (a .at) (a .msg) (length (a .work .now)) (a .turn .now) (a .edges .now) (c .before .before .before .before .before .before .before .before .pre .3) (c .before .before .before .before .loop .i) (c .before .before .before .loop-test .taken) (c .before .wide8 .result) (c .before .wide8 .ensures))
 
 add-subtract-turned-2 : tie.Need-add-subtract-turned-2 Inv-loop μ-loop
 add-subtract-turned-2 c =
     let a = c .before .before .before .before .before .before .before .before .args in
-    omega (arith, edge-reach (a .z) (a .at) (a .msg) (length (a .work .now)) (a .turn .now) (a .edges .now) (c .before .before .before .before .before .before .before .before .pre .3) (c .before .before .before .before .loop .i) (c .before .before .before .loop-test .taken) (c .before .wide8 .result) (c .before .wide8 .ensures))
+    omega (arith, edge-fits (a .z) (a .at) (a .msg) (length (a .work .now)) (a .turn .now) (a .edges .now) (c .before .before .before .before .before .before .before .before .pre .3) (c .before .before .before .before .loop .i) (c .before .before .before .loop-test .taken) (c .before .wide8 .result) (c .before .wide8 .ensures))
 
 mul-wide16 : tie.Need-mul-wide16 Inv-loop μ-loop
 mul-wide16 c =
     let a = c .before .before .before .before .before .before .before .before .args in
-    omega (arith, edge-reach (a .z) (a .at) (a .msg) (length (a .work .now)) (a .turn .now) (a .edges .now) (c .before .before .before .before .before .before .before .before .pre .3) (c .before .before .before .before .loop .i) (c .before .before .before .loop-test .taken) (c .before .wide8 .result) (c .before .wide8 .ensures))
+    omega (arith, edge-fits (a .z) (a .at) (a .msg) (length (a .work .now)) (a .turn .now) (a .edges .now) (c .before .before .before .before .before .before .before .before .pre .3) (c .before .before .before .before .loop .i) (c .before .before .before .loop-test .taken) (c .before .wide8 .result) (c .before .wide8 .ensures))
 
 shared-slice-read-wide16 : tie.Need-shared-slice-read-wide16 Inv-loop μ-loop
 shared-slice-read-wide16 c =
     let a = c .before .before .before .before .before .before .before .before .before .args in
-    omega (arith, edge-reach (a .z) (a .at) (a .msg) (length (a .work .now)) (a .turn .now) (a .edges .now) (c .before .before .before .before .before .before .before .before .before .pre .3) (c .before .before .before .before .before .loop .i) (c .before .before .before .before .loop-test .taken) (c .before .before .wide8 .result) (c .before .before .wide8 .ensures))
+    omega (arith, edge-fits (a .z) (a .at) (a .msg) (length (a .work .now)) (a .turn .now) (a .edges .now) (c .before .before .before .before .before .before .before .before .before .pre .3) (c .before .before .before .before .before .loop .i) (c .before .before .before .before .loop-test .taken) (c .before .before .wide8 .result) (c .before .before .wide8 .ensures))
 
 wide16-requires : tie.Need-wide16-requires Inv-loop μ-loop
 wide16-requires c κs = search needs
@@ -62,7 +62,7 @@ subtract-turned-requires : tie.Need-subtract-turned-requires Inv-loop μ-loop
 subtract-turned-requires c κs =
     let start = c .before .before .before .before .before .before .before .before .before .before in
     let a = start .args in
-    let r = edge-reach (a .z) (a .at) (a .msg) (length (a .work .now)) (a .turn .now) (a .edges .now) (start .pre .3) (c .before .before .before .before .before .before .loop .i) (c .before .before .before .before .before .loop-test .taken) (c .before .before .before .wide8 .result) (c .before .before .before .wide8 .ensures) in (
+    let r = edge-fits (a .z) (a .at) (a .msg) (length (a .work .now)) (a .turn .now) (a .edges .now) (start .pre .3) (c .before .before .before .before .before .before .loop .i) (c .before .before .before .before .before .loop-test .taken) (c .before .before .before .wide8 .result) (c .before .before .before .wide8 .ensures) in (
       omega (arith, r .turn-lt, c .wide16 .ensures),
       omega (arith, start .pre .2),
       omega (arith, r .before),

@@ -5,14 +5,14 @@ use lib.Ieee.{nan}
 use lib.ListN.{length}
 use Rattle.laws.proofs.Written.{Upto, upto-none}
 use Rattle.laws.specs.Written.{Written}
-use Rattle.minsum.proofs.Turns.{spread-turn, spread-done}
+use Rattle.channel.proofs.EdgesSpread.{spread-turn, spread-done}
 use Rattle.messages.specs.Iteration.{ofBit}
 use Rattle.ldpc.specs.Code.{codeGraph}
 use Rattle.messages.specs.Memory.{slotsOf, toChecks}
 use Rattle.ldpc.proofs.CodeEdges.{code-simple}
 use Rattle.sizes.proofs.Lent.{known, ready-still}
-use Rattle.minsum.proofs.spread_pass.Statement.{statement}
-use Rattle.minsum.proofs.spread_pass.Tie as tie
+use Rattle.channel.proofs.spread.spread_pass.Statement.{statement}
+use Rattle.channel.proofs.spread.spread_pass.Tie as tie
 
 abbrev Inv-loop : tie.InvT-loop
 Inv-loop c s column turn work₀ b₀ work b =
@@ -55,7 +55,7 @@ returns : tie.Need-returns Inv-loop μ-loop
 returns c =
     let start = c .before .before .before .before .before .before in
     let K = known (start .args .c) (start .args .s) (length (start .args .work .now)) (start .pre .0) in
-    spread-done (codeGraph (start .args .c)) (start .args .c .z) (K .lift) (code-simple (start .args .c)) (start .args .work .now) (start .pre .0 .room)
+    spread-done (codeGraph (start .args .c)) (start .args .c .z) (K .lift) (start .args .work .now) (start .pre .0 .room)
     _ (c .before .before .loop .b) (omega (arith, K .edges-is, c .if1 .left)) (c .before .before .loop .inv .1)
 
 pub spread-pass-spec : {M : Type 1} → statement M

@@ -1,4 +1,4 @@
--- `column_pass` meets its contract. The invariant: the bits at the offsets below j are done. Assumes nothing.
+-- `by_bits` meets its contract. The invariant: the bits at the offsets below j are done. Assumes nothing.
 use Prim.Native.Nat.{_-_, _≤_}
 use native.Mathlib.Omega.{arith}
 use lib.ListN.{length}
@@ -7,8 +7,8 @@ use Rattle.laws.specs.Written.{Written}
 use Rattle.laws.proofs.Written.{Upto, upto-none, upto-run, upto-all}
 use Rattle.totals.specs.Joined.{Place, offsetOf, sentAt}
 use Rattle.totals.proofs.OneBit.{offset-lt, sent-agrees}
-use Rattle.totals.proofs.column.column_pass.Statement.{statement}
-use Rattle.totals.proofs.column.column_pass.Tie as tie
+use Rattle.totals.proofs.column.by_bits.Statement.{statement}
+use Rattle.totals.proofs.column.by_bits.Tie as tie
 
 abbrev Inv-loop : tie.InvT-loop
 Inv-loop work₀ bits msg z column edges turn j₀ work j =
@@ -60,8 +60,8 @@ returns c =
     upto-all (c .before .loop .inv .1)
     (λ x p. omega (arith, offset-lt (a .bits) (a .msg) (a .z) (a .column) (a .edges .now) (a .turn .now) (c .before .before .before .before .before .pre .0) (c .before .before .before .before .before .pre .2) x p, c .loop-test .left))
 
-pub column-pass-spec : {M : Type 1} → statement M
-column-pass-spec =
+pub by-bits-spec : {M : Type 1} → statement M
+by-bits-spec =
     tie.close
     (tie.spec
     Inv-loop

@@ -8,9 +8,9 @@ use Rattle.matrix.proofs.ByColumn.{two-listed}
 use Rattle.messages.specs.Memory.{needed}
 use Rattle.ldpc.specs.Code.{codeGraph}
 use Rattle.sizes.proofs.Lent.{Known, known}
-use Rattle.by_columns.proofs.Listed.{middle-listed}
-use Rattle.by_columns.proofs.long.edges_of.Statement.{statement}
-use Rattle.by_columns.proofs.long.edges_of.Tie as tie
+use Rattle.by_columns.proofs.ColumnLists.{middle-listed}
+use Rattle.by_columns.proofs.edges_of.Statement.{statement}
+use Rattle.by_columns.proofs.edges_of.Tie as tie
 
 -- what is known at the entry
 sizes : (c : tie.Start) → Known (c .args .c) (c .args .s) (needed (codeGraph (c .args .c)) (c .args .c .z))

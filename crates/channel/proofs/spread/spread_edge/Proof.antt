@@ -1,16 +1,14 @@
 -- `spread_edge` meets its contract. Assumes nothing.
-use mathlib.Core.Path.{refl, sym, ap, subst, _∙_}
+use mathlib.Core.Path.{sym, ap, subst, _∙_}
 use Prim.Native.Nat.{ℕ, _+_, _*_, _≤_}
 use native.Mathlib.Omega.{arith}
 use borrow.Author.Needs.{needs}
 use lib.ListN.{length}
-use Rattle.matrix.specs.Edges.{edgeColumn}
-use Rattle.minsum.proofs.Turns.{spread-told}
+use Rattle.channel.proofs.EdgesSpread.{spread-told}
 use Rattle.ldpc.specs.Code.{codeGraph}
 use Rattle.sizes.proofs.Lent.{known, edge-in}
-use Rattle.messages.specs.Memory.{bitsOf, toBits}
-use Rattle.minsum.proofs.spread_edge.Tie as tie
-use Rattle.minsum.proofs.spread_edge.Statement.{statement}
+use Rattle.channel.proofs.spread.spread_edge.Tie as tie
+use Rattle.channel.proofs.spread.spread_edge.Statement.{statement}
 
 shared-slice-read-wide8 : tie.Need-shared-slice-read-wide8
 shared-slice-read-wide8 c =
@@ -86,9 +84,9 @@ returns c =
     let g = codeGraph (start .args .c) in
     let z = start .args .c .z in
     let b = start .args .b in
-    spread-told g z (K .lift) (start .args .work .now) _ b (start .pre .2) (E .column-lt) (bitsOf g z + edgeColumn g b * z) (toBits g z + b * z) _ refl refl
-    (c .before .before .before .wide16 .ensures ∙ E .turn-is) _ _ (ap (λ (x : ℕ). x + b * z) (K .to-checks))
-    (ap (λ (x : ℕ). x * z) (c .before .before .before .before .before .before .before .wide8 .ensures ∙ E .column-is)) (c .before .before .copy-turned .ensures)
+    spread-told g z (K .lift) (start .args .work .now) _ b (start .pre .2) _ _ _ (ap (λ (x : ℕ). x + b * z) (K .to-checks))
+    (ap (λ (x : ℕ). x * z) (c .before .before .before .before .before .before .before .wide8 .ensures ∙ E .column-is))
+    (c .before .before .before .wide16 .ensures ∙ E .turn-is) (c .before .before .copy-turned .ensures)
 
 pub spread-edge-spec : {M : Type 1} → statement M
 spread-edge-spec =
