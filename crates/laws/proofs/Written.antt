@@ -2,14 +2,14 @@
 -- whole as a list. Assumes nothing.
 use mathlib.Core.Path.{_≡_, refl, sym, ap, ap₂, _∙_, subst}
 use mathlib.Core.Logic.{_⊎_, inl, inr, ⊎-elim}
-use mathlib.Core.List.{List, _∷_, _++_, append-nil}
+use mathlib.Core.List.{List, _∷_, _++_}
 use Prim.Native.Nat.{ℕ, zero, suc, _+_, _-_, _*_, _/_, _%_, _<_, _≤_}
 use native.Mathlib.Omega.{arith}
 use native.Mathlib.Decide.{ℕ-discrete, decLt}
 use native.Mathlib.Nat.{add-assoc, zero-add, mod-lt}
 use lib.ListN.{length, take, drop, getD, set, length-set, length-drop, length-append, List·getD-append}
-use lib.Seq.{drop-length, length-take-le, getD-set-same, getD-set-other, ext-getD, getD-append-add, getD-take, getD-drop}
-use Rattle.laws.proofs.Slots.{slot-div, slot-mod, slot-is}
+use lib.Seq.{length-take-le, getD-set-same, getD-set-other, ext-getD, getD-append-add, getD-take, getD-drop}
+use Rattle.laws.proofs.Slots.{slot-div, slot-is}
 use Rattle.laws.specs.Written.{Written, At, tabulate, rewritten}
 
 module _ {A : Type 0} {d : A} {base : ℕ} where
@@ -57,16 +57,6 @@ module _ {A : Type 0} {d : A} {base : ℕ} where
   pub high : {P : ℕ → Type 0} {f : ℕ → A} {w w′ : List A} (n : ℕ) → Written d base P f w w′ → ((s : ℕ) → P s → s < n)
       → (i : ℕ) → base + n ≤ i → getD w′ i d ≡ getD w i d
   high n W b i h = W .off i (λ s p e. omega (arith, b s p))
-
-  -- the places of P that are not written hold what h says there already
-  pub widen : {P Q : ℕ → Type 0} {h : ℕ → A} {w w′ : List A} → Written d base Q h w w′ → ((s : ℕ) → Q s → P s)
-      → ((s : ℕ) → P s → Q s ⊎ (((Q s → ⊥) × (getD w (base + s) d ≡ h s)))) → Written d base P h w w′
-  widen {P} {Q} {h} {w} {w′} W to rest =
-      record {
-        long = W .long;
-        at = λ s p. ⊎-elim (λ q. W .at s q) (λ n. W .off (base + s) (λ j q e. n .0 (subst Q (omega arith) q)) ∙ n .1) (rest s p);
-        off = λ i k. W .off i (λ s q. k s (to s q));
-      }
 
   -- a run of z places, as block b of a region
   pub block : {P : ℕ → Type 0} {f : ℕ → A} {w w′ : List A} (z b : ℕ) (h : ℕ → A) → 0 < z → Written d (base + b * z) (λ t. t < z) f w w′
@@ -158,11 +148,6 @@ module _ {A : Type 0} {d : A} {base : ℕ} {P : ℕ → Type 0} {key : ℕ → �
       split s r (yes h) = inr (record { among = r .among; has = h })
       split s r (no h) = inl (record { among = r .among; below = omega arith }, λ q. h (q .has))
 
-  -- the turn k has no slot
-  pub upto-skip : {k : ℕ} {w′ : List A} → Written d base (Upto P key k) f w w′ → ((s : ℕ) → At P key k s → ⊥)
-      → Written d base (Upto P key (k + 1)) f w w′
-  upto-skip W h = upto-run W (none h) (λ s p. refl)
-
   -- the turn k has the slot j alone, and stores there
   pub upto-store : {k : ℕ} {w′ : List A} (j : ℕ) (v : A) → Written d base (Upto P key k) f w w′ → At P key k j
       → ((s : ℕ) → At P key k s → s ≡ j) → base + j < length w → v ≡ f j
@@ -192,18 +177,6 @@ module _ {A : Type 0} {d : A} {P : ℕ → Type 0} {f : ℕ → A} {w w′ : Lis
   pub upto-front : (v : A) → Written d 0 (Upto P (λ s. s) k) f w w′ → P k → k < length w → v ≡ f k
       → Written d 0 (Upto P (λ s. s) (k + 1)) f w (set w′ k v)
   upto-front v W p inside e = rw zero-add at (upto-next v W p (rw zero-add inside) e)
-
--- a turn t over the block b of z slots stores at the slot b * z + t
-module _ {A : Type 0} {d : A} {base : ℕ} {P : ℕ → Type 0} {f : ℕ → A} {w w′ : List A} (z b t : ℕ) where
-  pub upto-block : (v : A) → Written d base (Upto (At P (λ s. s / z) b) (λ s. s % z) t) f w w′ → t < z → P (b * z + t)
-      → base + (b * z + t) < length w → v ≡ f (b * z + t)
-      → Written d base (Upto (At P (λ s. s / z) b) (λ s. s % z) (t + 1)) f w (set w′ (base + (b * z + t)) v)
-  upto-block v W k p inside e =
-      upto-store (b * z + t) v W
-      (record { among = record { among = p; has = slot-div b z t k }; has = slot-mod b z t k })
-      (λ s q. slot-is s z b t (q .among .has) (q .has))
-      inside
-      e
 
 pub length-tabulate : {A : Type 0} (f : ℕ → A) (n : ℕ) → length (tabulate f n) ≡ n
 unfolding tabulate
@@ -265,11 +238,6 @@ module _ {A : Type 0} (d : A) (base n : ℕ) (f : ℕ → A) (w : List A) (fits 
       at i (no h) (no k) =
           let e : base + (n + (i - (base + n))) ≡ i = omega arith in
           W .off i (λ s p q. omega arith) ∙ sym (rw e at (high-rewritten (i - (base + n))))
-
--- a list that is written whole
-pub rewritten-all : {A : Type 0} (f : ℕ → A) (w : List A) → rewritten 0 (length w) f w ≡ tabulate f (length w)
-unfolding rewritten
-rewritten-all f w = rw (zero-add, drop-length, append-nil)
 
 -- a list that holds f at each place is f all through
 pub tabulated : {A : Type 0} (d : A) (f : ℕ → A) (n : ℕ) (l : List A) → length l ≡ n → ((s : ℕ) → s < n → getD l s d ≡ f s)

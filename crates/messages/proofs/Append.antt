@@ -10,7 +10,7 @@ use Rattle.laws.specs.Floats.{negative}
 use Rattle.laws.proofs.Range.{count-ext}
 use Rattle.laws.proofs.Parity.{xorSum-ext}
 use Rattle.laws.proofs.Slots.{edge-lt}
-use Rattle.laws.proofs.Front.{Front, front-then, front-rewritten, front-past}
+use Rattle.laws.proofs.Front.{Front, front-then, front-rewritten}
 use Rattle.tables.specs.declared.BaseGraph.{BaseGraph}
 use Rattle.matrix.specs.Edges.{edges, bitAt}
 use Rattle.matrix.specs.Checks.{unmet, checkSum, rowSum}
@@ -69,13 +69,3 @@ module _ (g : BaseGraph) (simple : Simple g) (z : ℕ) (lift : 0 < z) where
     pub iteration-front : Front (needed g z) (iteration factor g z)
     unfolding iteration
     iteration-front = front-then (front-then check-front total-front) send-front
-
-    module _ (w : List Float) (long : needed g z ≤ length w) where
-      pub iteration-append : (x : List Float) → iteration factor g z (w ++ x) ≡ iteration factor g z w ++ x
-      iteration-append x = iteration-front .append w x long
-
-      pub iteration-long : length (iteration factor g z w) ≡ length w
-      iteration-long = iteration-front .long w long
-
-      pub iteration-past : (i : ℕ) → needed g z ≤ i → getD (iteration factor g z w) i nan ≡ getD w i nan
-      iteration-past = front-past iteration-front nan w long

@@ -36,7 +36,7 @@ module _ (g : BaseGraph) (z : ℕ) (lift : 0 < z) where
       (λ i k t l. e _ (slot-lt (row-entry g (edgeRow g (s / z)) i k .edge-lt) l)) factor lift s (e s h)
 
   -- the checks of row r, from the list of its base edges
-  pub row-written : (factor : Float) (r : ℕ) (m : ℕ → Float) (w w′ : List Float)
+  row-written : (factor : Float) (r : ℕ) (m : ℕ → Float) (w w′ : List Float)
       → Written nan (toBits g z) (Of (rowEdges g r) (length (rowEdges g r)) z) (answer factor z (rowEdges g r) m) w w′
       → Written nan (toBits g z) (At Slots rowOf r) (toBit factor g z m) w w′
   unfolding toBit slotsOf
@@ -56,6 +56,7 @@ module _ (g : BaseGraph) (z : ℕ) (lift : 0 < z) where
       })
       (λ s q. ap (λ (x : ℕ). answer factor z (rowEdges g x) m s) (sym (q .has)))
 
+  -- one row more
   pub check-turn : (factor : Float) (r : ℕ) (w₀ w w′ : List Float)
       → Written nan (toBits g z) (Upto Slots rowOf r) (toBit factor g z (reading w₀ (toChecks g z))) w₀ w
       → RowDone factor g z r w w′
@@ -74,6 +75,7 @@ module _ (g : BaseGraph) (z : ℕ) (lift : 0 < z) where
       (subst (λ (x : ℕ). Written nan x (Of l (length l) z) (answer factor z l (reading w (toChecks g z))) w w′) e′
       (subst (λ (x : ℕ). Written nan to (Of l (length l) z) (answer factor z l (reading w x)) w w′) e W)))
 
+  -- all rows
   pub check-done : (simple : Simple g) (w : List Float) (room : needed g z ≤ length w) (factor : Float) (w′ : List Float) (r : ℕ) → g .shape .«m_b» ≤ r
       → Written nan (toBits g z) (Upto (λ s. s < slotsOf g z) (λ s. edgeRow g (s / z)) r) (toBit factor g z (reading w (toChecks g z))) w w′
       → w′ ≡ checkPass factor g z w
