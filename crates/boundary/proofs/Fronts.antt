@@ -1,5 +1,5 @@
 -- Numbers put to the front of a list, one store after another. Assumes nothing.
-use mathlib.Core.Path.{_≡_, refl, sym, ap, _∙_}
+use mathlib.Core.Path.{_≡_, refl}
 use mathlib.Core.List.{List, [], _∷_, _++_, append-nil}
 use Prim.Native.Nat.{ℕ, _+_, _<_, _≤_}
 use lib.ListN.{length, getD, set, drop, drop-of-length-le}

@@ -1,6 +1,5 @@
 // The checks of a base row, by the way that its lift allows.
 use crate::pairs;
-ghost use mathlib.Core.Path.{_≡_};
 ghost use Prim.Native.Nat.{_<_, _≤_};
 ghost use lib.ListN.{length};
 ghost use lib.Ieee.{nan};

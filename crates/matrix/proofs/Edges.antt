@@ -2,12 +2,10 @@
 use mathlib.Core.Path.{_≡_}
 use mathlib.Core.Bool.{cond}
 use Prim.Native.Nat.{ℕ, _+_, _*_, _/_, _%_, _-_, _<_, _≤_}
-use native.Mathlib.Omega.{arith}
-use native.Mathlib.Decide.{ℕ-discrete}
 use native.Mathlib.Nat.{mod-lt, div-add-mod'}
 use lib.Dec.{eqb}
 use lib.ListN.{getD}
-use borrow.Author.Tests.{eq-eqb, ne-eqb, lt-ltb, le-ltb}
+use borrow.Author.Tests.{lt-ltb, le-ltb}
 use Rattle.laws.proofs.Slots.{slot-lt, slot-div, slot-mod, back-then-on-by}
 use Rattle.tables.specs.declared.BaseGraph.{BaseGraph}
 use Rattle.laws.specs.Columns.{parityRow}

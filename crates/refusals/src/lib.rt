@@ -1,6 +1,5 @@
 // The refusals of every call: 01, "Who can cause a refusal". Each case holds what its pair needs. Assumes nothing.
 ghost use mathlib.Core.Path.{_≡_};
-ghost use Prim.Native.Nat.{ℕ};
 ghost use Rattle.refusals.specs.Told.{numbersOf};
 
 pub enum Refusal {

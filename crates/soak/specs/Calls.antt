@@ -1,6 +1,6 @@
 -- The calls of a list: how one is drawn, and what it is to refuse. Assumes nothing.
 use mathlib.Core.Bool.{Bool, true, false, cond, _&&_}
-use Prim.Native.Nat.{ℕ, _+_, _-_, _/_, _%_, min}
+use Prim.Native.Nat.{ℕ, _+_, _-_, _/_, _%_}
 use lib.Dec.{eqb, ltb}
 use Rattle.refusals.specs.Told.{numbersOf}
 use Rattle.refusals.specs.declared.Numbers.{Numbers}

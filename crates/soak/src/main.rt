@@ -17,9 +17,7 @@ use decoder::ReadOut;
 use ldpc::Choice;
 use ldpc::Code;
 use totals::Totals;
-ghost use mathlib.Core.Path.{_≡_};
 ghost use Prim.Native.Nat.{_<_};
-ghost use lib.ListN.{length};
 
 // A list under way: the record last returned, the sum of the accepted grants, the generator's state, and the totals.
 struct Run {

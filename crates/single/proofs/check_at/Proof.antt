@@ -1,11 +1,11 @@
 -- `check_at` meets its contract. Assumes nothing.
-use mathlib.Core.Path.{_≡_, refl, sym, ap, _∙_}
-use mathlib.Core.Bool.{cond, true}
-use Prim.Native.Nat.{ℕ, _+_, _*_, _≤_, _<_}
+use mathlib.Core.Path.{refl, sym, ap, _∙_}
+use mathlib.Core.Bool.{cond}
+use Prim.Native.Nat.{ℕ, _+_, _*_, _≤_}
 use native.Mathlib.Omega.{arith}
 use borrow.Author.Needs.{needs}
-use lib.ListN.{length, getD}
-use lib.Ieee.{Float, inf, lt, mul, nan, binary32}
+use lib.ListN.{length}
+use lib.Ieee.{mul, binary32}
 use Rattle.laws.specs.Floats.{negative}
 use Rattle.laws.proofs.Written.{low}
 use Rattle.messages.specs.Memory.{reading}

@@ -1,6 +1,5 @@
 -- `granted` meets its contract, by its cases. Assumes nothing.
 use mathlib.Core.Path.{refl, _∙_}
-use native.Mathlib.Omega.{arith}
 use Rattle.boundary.proofs.Fronts.{none-in, decode-all}
 use borrow.Author.Needs.{needs}
 use Rattle.boundary.proofs.answers.granted.Statement.{statement}

@@ -1,5 +1,5 @@
 -- `work_needed` meets its contract. Assumes nothing.
-use mathlib.Core.Path.{_≡_, sym, _∙_}
+use mathlib.Core.Path.{sym, _∙_}
 use borrow.Author.Tests.{not-true, not-false}
 use Rattle.ldpc.proofs.Refused.{made-passed, made-refused}
 use Rattle.ldpc.specs.Getters as getters

@@ -1,5 +1,4 @@
 -- `decode_in` meets its contract. Assumes nothing.
-use mathlib.Core.Path.{ap}
 use native.Mathlib.Omega.{arith}
 use Rattle.boundary.proofs.Fronts.{iterations-below}
 use Rattle.boundary.specs.Answers.{decodeIn}

@@ -1,7 +1,5 @@
 -- `put_decode` meets its contract, store by store. Assumes nothing.
-use native.Mathlib.Omega.{arith}
 use Rattle.boundary.proofs.Fronts.{decode-in}
-use Rattle.boundary.specs.Answers.{decodeNumbers}
 use borrow.Author.Needs.{needs}
 use Rattle.boundary.proofs.records.put_decode.Statement.{statement}
 use Rattle.boundary.proofs.records.put_decode.Tie as tie

@@ -1,5 +1,5 @@
 -- `checks::row::check_row` meets its contract. Assumes nothing.
-use mathlib.Core.Path.{_≡_, sym, subst}
+use mathlib.Core.Path.{sym, subst}
 use Prim.Native.Nat.{ℕ, _<_, _≤_}
 use lib.ListN.{length}
 use lib.Ieee.{nan}

@@ -1,5 +1,5 @@
 -- `fuyegbo_code` meets its contract. Assumes nothing.
-use mathlib.Core.Path.{_≡_, sym, _∙_}
+use mathlib.Core.Path.{sym, _∙_}
 use Rattle.refusals.proofs.Lengths.{length-passed, length-refused}
 use Rattle.boundary.proofs.Answered.{no-answer, has-answer, left-answer, number-of, kept-by, pair-of, number-as, by-as, answer-as}
 use Rattle.boundary.specs.Calls.{codeAt}

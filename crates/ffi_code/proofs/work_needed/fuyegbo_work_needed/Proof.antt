@@ -1,5 +1,5 @@
 -- `fuyegbo_work_needed` meets its contract. Assumes nothing.
-use mathlib.Core.Path.{_≡_, sym, ap, _∙_}
+use mathlib.Core.Path.{sym, ap, _∙_}
 use Rattle.boundary.proofs.Answered.{no-answer, has-answer, left-answer, no-code, has-code, number-of, pair-of, number-as, answer-as}
 use Rattle.boundary.specs.Answers.{workTold}
 use Rattle.boundary.specs.Calls.{workAt}

@@ -1,5 +1,5 @@
 -- `fuyegbo_unsatisfied` meets its contract. Assumes nothing.
-use mathlib.Core.Path.{_≡_, sym, ap, _∙_}
+use mathlib.Core.Path.{sym, ap, _∙_}
 use Rattle.boundary.proofs.Answered.{no-answer, has-answer, left-answer, no-code, has-code, number-of, pair-of, number-as, answer-as}
 use Rattle.coder.specs.Calls.{unsatisfiedTold}
 use Rattle.boundary.specs.Calls.{unsatisfiedAt}

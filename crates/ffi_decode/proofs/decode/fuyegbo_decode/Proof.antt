@@ -1,5 +1,5 @@
 -- `fuyegbo_decode` meets its contract. Assumes nothing.
-use mathlib.Core.Path.{_≡_, sym, _∙_}
+use mathlib.Core.Path.{sym, _∙_}
 use Rattle.boundary.proofs.Answered.{no-answer, has-answer, if-answer, unless-answer, left-answer, number-of, number-as, answer-as}
 use Rattle.boundary.specs.Calls.{decodeAt, decodedMemory, decodedWord}
 use borrow.Author.Needs.{needs}

@@ -1,5 +1,5 @@
 -- `fuyegbo_read` meets its contract. Assumes nothing.
-use mathlib.Core.Path.{_≡_, sym, ap, _∙_}
+use mathlib.Core.Path.{sym, ap, _∙_}
 use borrow.Author.Tests.{not-true, not-false}
 use Rattle.boundary.proofs.Answered.{no-answer, has-answer, left-answer, no-decode, not-decode, has-decode, number-of, kept, pair-of, number-as, after-as, answer-as}
 use lib.ListN.{length}

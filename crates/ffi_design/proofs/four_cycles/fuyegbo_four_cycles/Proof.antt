@@ -1,5 +1,5 @@
 -- `fuyegbo_four_cycles` meets its contract. Assumes nothing.
-use mathlib.Core.Path.{_≡_, sym, _∙_}
+use mathlib.Core.Path.{sym, _∙_}
 use Rattle.boundary.proofs.Answered.{no-answer, has-answer, left-answer, number-of, number-as, answer-as}
 use borrow.Author.Needs.{needs}
 use Rattle.ffi_design.proofs.four_cycles.fuyegbo_four_cycles.Statement.{statement}

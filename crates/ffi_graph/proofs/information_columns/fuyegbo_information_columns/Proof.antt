@@ -1,5 +1,5 @@
 -- `fuyegbo_information_columns` meets its contract. Assumes nothing.
-use mathlib.Core.Path.{_≡_, sym, _∙_}
+use mathlib.Core.Path.{sym, _∙_}
 use Rattle.boundary.proofs.Answered.{no-answer, has-answer, left-answer, number-of, number-as, answer-as}
 use borrow.Author.Needs.{needs}
 use Rattle.ffi_graph.proofs.information_columns.fuyegbo_information_columns.Statement.{statement}

@@ -1,5 +1,5 @@
 -- `fuyegbo_peg` meets its contract. Assumes nothing.
-use mathlib.Core.Path.{_≡_, sym, _∙_}
+use mathlib.Core.Path.{sym, _∙_}
 use Rattle.boundary.proofs.Answered.{no-answer, has-answer, left-answer, number-of, kept, number-as, after-as, answer-as}
 use Rattle.graph.specs.Calls.{pegWritten}
 use borrow.Author.Needs.{needs}

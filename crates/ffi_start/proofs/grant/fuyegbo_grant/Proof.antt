@@ -1,5 +1,5 @@
 -- `fuyegbo_grant` meets its contract. Assumes nothing.
-use mathlib.Core.Path.{_≡_, sym, ap, _∙_}
+use mathlib.Core.Path.{sym, ap, _∙_}
 use borrow.Author.Tests.{not-true, not-false}
 use Rattle.boundary.proofs.Answered.{no-answer, has-answer, left-answer, no-decode, not-decode, has-decode, number-of, kept, kept-by, pair-of, number-as, after-as, by-as, answer-as}
 use Rattle.decoder.specs.Calls.{grantTold, grantWritten}

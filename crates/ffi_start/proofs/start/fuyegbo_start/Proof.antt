@@ -1,5 +1,5 @@
 -- `fuyegbo_start` meets its contract. Assumes nothing.
-use mathlib.Core.Path.{_≡_, sym, ap, _∙_}
+use mathlib.Core.Path.{sym, ap, _∙_}
 use Rattle.refusals.proofs.Lengths.{length-passed, length-refused}
 use Rattle.boundary.proofs.Answered.{no-answer, has-answer, left-answer, no-code, has-code, number-of, kept, kept-by, pair-of, number-as, after-as, by-as, answer-as}
 use lib.ListN.{length}
