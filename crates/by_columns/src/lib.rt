@@ -53,6 +53,7 @@ fn listed_column(c: Code, s: Sizes, edges: &[u8], turn: &[u16], v: usize, work: 
     totals::column_pass(work, s.bits, 2 * s.bits + s.slots, z, v * z, edges, turn);
 }
 
+// Column v.
 fn column(c: Code, s: Sizes, sorted: &[u8], turn: &[u16], v: usize, work: &mut [f32])
     requires { ⌜ Ready c s (length (now work)) × Sorted c (now sorted) × Turns c (now turn) × (v < codeGraph c .shape .«k_b» + codeGraph c .shape .«m_b») ⌝ }
     ensures { λ _. ⌜ ColumnDone (codeGraph c) (c .z) v (now (work .entry)) (now (work .exit)) ⌝ }

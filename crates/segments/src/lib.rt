@@ -1,5 +1,5 @@
 // Segments of the work memory: runs of numbers that are copied, added, subtracted. A column is turned in two runs, so that no bit
-// asks for a remainder. What these functions require, their callers in totals, minsum and channel meet.
+// asks for a remainder. What these functions require, their callers in totals and channel meet.
 ghost use Prim.Native.Nat.{_+_, _-_, _%_, _<_, _≤_};
 ghost use lib.ListN.{length};
 ghost use lib.Ieee.{add, sub, binary32};
