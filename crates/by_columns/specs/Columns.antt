@@ -1,4 +1,4 @@
--- The bit pass in one, column after column. A place x counts from the totals on: below N it is a bit's total, from N on the message
+-- The bit pass in one, column after column: 01, "Iteration". A place x counts from the totals on: below N it is a bit's total, from N on the message
 -- to a check at slot x - N. Assumes nothing.
 use mathlib.Core.Bool.{cond}
 use mathlib.Core.List.{List}

@@ -1,4 +1,4 @@
--- What Start writes for a base edge. Assumes nothing.
+-- What Start writes for a base edge: 01, "Start". Assumes nothing.
 use mathlib.Core.List.{List}
 use Prim.Native.Nat.{ℕ, _/_, _<_}
 use lib.Ieee.{Float, nan}

@@ -1,4 +1,4 @@
--- What the checks of a base row write. Assumes nothing.
+-- What the checks of a base row write: 01, "Iteration". Assumes nothing.
 use mathlib.Core.List.{List}
 use Prim.Native.Nat.{ℕ, _/_, _<_}
 use lib.Ieee.{Float, nan}

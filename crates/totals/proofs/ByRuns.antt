@@ -15,12 +15,7 @@ use Rattle.laws.proofs.Slots.{slot-div, slot-mod, slot-is}
 use Rattle.laws.proofs.Written.{Among, run-more, low, high}
 use Rattle.messages.specs.Memory.{reading}
 use Rattle.slots.specs.Row.{Of, Ran}
-use Rattle.totals.specs.Joined.{joinedSlot, totalOver, Fits, AllFit, Place, offsetOf, totalAt, sentAt, lessTotal}
-
--- what is known of a base edge of the list, by its number
-pub edge-fits : (z at msg len : ℕ) (turn edges : List ℕ) → AllFit z at msg len turn edges → (i : ℕ) → i < length edges → (b : ℕ) → b ≡ getD edges i 0
-    → Fits z at msg len turn b
-edge-fits z at msg len turn edges R i h b e = subst (Fits z at msg len turn) (sym e) (R i h)
+use Rattle.totals.specs.Joined.{joinedSlot, totalOver, AllFit, Place, offsetOf, totalAt, sentAt, lessTotal}
 
 -- one base edge more is added to the totals
 module _ (tot msg z : ℕ) (edges turn : List ℕ) (i : ℕ) (h : i < length edges) (before : tot + z ≤ msg) (w₀ w w′ : List Float) where

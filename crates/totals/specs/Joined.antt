@@ -1,4 +1,4 @@
--- What the bit pass of a column reads and writes. A place x counts from the totals on: below N it is a bit's total, from N on the
+-- What the bit pass of a column reads and writes: 01, "Iteration". A place x counts from the totals on: below N it is a bit's total, from N on the
 -- message to a check at slot x - N. Assumes nothing.
 use mathlib.Core.Path.{_≡_}
 use mathlib.Core.Bool.{cond}

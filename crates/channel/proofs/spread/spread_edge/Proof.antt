@@ -6,72 +6,57 @@ use borrow.Author.Needs.{needs}
 use lib.ListN.{length}
 use Rattle.channel.proofs.EdgesSpread.{spread-told}
 use Rattle.ldpc.specs.Code.{codeGraph}
-use Rattle.sizes.proofs.Lent.{known, edge-in}
+use Rattle.sizes.proofs.Lent.{Known, known, EdgeIn, edge-in}
 use Rattle.channel.proofs.spread.spread_edge.Tie as tie
 use Rattle.channel.proofs.spread.spread_edge.Statement.{statement}
 
+-- what is known at the entry: the sizes, and base edge b
+sizes : (c : tie.Start) → Known (c .args .c) (c .args .s) (length (c .args .work .now))
+sizes c = known (c .args .c) (c .args .s) (length (c .args .work .now)) (c .pre .0)
+
+edge : (c : tie.Start) → EdgeIn (c .args .c) (c .args .s) (c .args .column .now) (c .args .turn .now) (c .args .b)
+edge c = edge-in (c .args .c) (c .args .s) (length (c .args .work .now)) (sizes c) (c .args .column .now) (c .args .turn .now) (c .pre .1) (c .args .b) (c .pre .2)
+
+-- where its column ends, by the column's number as it was read
+column-end : (c : tie.After-wide8) → let a = c .before .before .before .before .before .args in c .wide8 .result * a .c .z + a .c .z ≤ a .s .bits
+column-end c =
+    let start = c .before .before .before .before .before in
+    subst (λ (x : ℕ). x * start .args .c .z + start .args .c .z ≤ start .args .s .bits) (sym (c .wide8 .ensures)) (edge start .column-end)
+
 shared-slice-read-wide8 : tie.Need-shared-slice-read-wide8
-shared-slice-read-wide8 c =
-    let start = c .before .before .before .before in
-    let K = known (start .args .c) (start .args .s) (length (start .args .work .now)) (start .pre .0) in
-    let E = edge-in (start .args .c) (start .args .s) (length (start .args .work .now)) K (start .args .column .now) (start .args .turn .now) (start .pre .1) (start .args .b) (start .pre .2) in
-    E .column-there
+shared-slice-read-wide8 c = edge (c .before .before .before .before) .column-there
 
 wide8-requires : tie.Need-wide8-requires
 wide8-requires c κs = search needs
 
 mul-from : tie.Need-mul-from
-mul-from c =
-    let start = c .before .before .before .before .before in
-    let K = known (start .args .c) (start .args .s) (length (start .args .work .now)) (start .pre .0) in
-    let E = edge-in (start .args .c) (start .args .s) (length (start .args .work .now)) K (start .args .column .now) (start .args .turn .now) (start .pre .1) (start .args .b) (start .pre .2) in
-    let e = subst (λ (x : ℕ). x * start .args .c .z + start .args .c .z ≤ start .args .s .bits) (sym (c .wide8 .ensures)) (E .column-end) in
-    omega (arith, e, K)
+mul-from c = omega (arith, column-end c, sizes (c .before .before .before .before .before))
 
 mul-copy-turned : tie.Need-mul-copy-turned
-mul-copy-turned c =
-    let start = c .before .before .before .before .before .before .before in
-    let K = known (start .args .c) (start .args .s) (length (start .args .work .now)) (start .pre .0) in
-    omega (arith, K)
+mul-copy-turned c = omega (arith, sizes (c .before .before .before .before .before .before .before))
 
 mul-copy-turned-2 : tie.Need-mul-copy-turned-2
-mul-copy-turned-2 c =
-    let start = c .before .before .before .before .before .before .before in
-    let K = known (start .args .c) (start .args .s) (length (start .args .work .now)) (start .pre .0) in
-    let E = edge-in (start .args .c) (start .args .s) (length (start .args .work .now)) K (start .args .column .now) (start .args .turn .now) (start .pre .1) (start .args .b) (start .pre .2) in
-    omega (arith, E .slot-end, K)
+mul-copy-turned-2 c = omega (arith, edge (c .before .before .before .before .before .before .before) .slot-end, sizes (c .before .before .before .before .before .before .before))
 
 add-copy-turned : tie.Need-add-copy-turned
-add-copy-turned c =
-    let start = c .before .before .before .before .before .before .before in
-    let K = known (start .args .c) (start .args .s) (length (start .args .work .now)) (start .pre .0) in
-    let E = edge-in (start .args .c) (start .args .s) (length (start .args .work .now)) K (start .args .column .now) (start .args .turn .now) (start .pre .1) (start .args .b) (start .pre .2) in
-    omega (arith, E .slot-end, K)
+add-copy-turned c = omega (arith, edge (c .before .before .before .before .before .before .before) .slot-end, sizes (c .before .before .before .before .before .before .before))
 
 mul-wide16 : tie.Need-mul-wide16
-mul-wide16 c =
-    let start = c .before .before .before .before .before .before .before in
-    let K = known (start .args .c) (start .args .s) (length (start .args .work .now)) (start .pre .0) in
-    let E = edge-in (start .args .c) (start .args .s) (length (start .args .work .now)) K (start .args .column .now) (start .args .turn .now) (start .pre .1) (start .args .b) (start .pre .2) in
-    omega (arith, E .turn-there)
+mul-wide16 c = omega (arith, edge (c .before .before .before .before .before .before .before) .turn-there)
 
 shared-slice-read-wide16 : tie.Need-shared-slice-read-wide16
-shared-slice-read-wide16 c =
-    let start = c .before .before .before .before .before .before .before .before in
-    let K = known (start .args .c) (start .args .s) (length (start .args .work .now)) (start .pre .0) in
-    let E = edge-in (start .args .c) (start .args .s) (length (start .args .work .now)) K (start .args .column .now) (start .args .turn .now) (start .pre .1) (start .args .b) (start .pre .2) in
-    E .turn-there
+shared-slice-read-wide16 c = edge (c .before .before .before .before .before .before .before .before) .turn-there
 
 wide16-requires : tie.Need-wide16-requires
 wide16-requires c κs = search needs
 
 copy-turned-requires : tie.Need-copy-turned-requires
 copy-turned-requires c κs =
-    let start = c .before .before .before .before .before .before .before .before .before in
-    let K = known (start .args .c) (start .args .s) (length (start .args .work .now)) (start .pre .0) in
-    let E = edge-in (start .args .c) (start .args .s) (length (start .args .work .now)) K (start .args .column .now) (start .args .turn .now) (start .pre .1) (start .args .b) (start .pre .2) in
-    let e = subst (λ (x : ℕ). x * start .args .c .z + start .args .c .z ≤ start .args .s .bits) (sym (c .before .before .before .before .wide8 .ensures)) (E .column-end) in
-    (rw (c .wide16 .ensures) (E .turn-lt), omega (arith, e, K), omega (arith, E .slot-end, K))
+    let start = c .before .before .before .before .before .before .before .before .before in (
+      rw (c .wide16 .ensures) (edge start .turn-lt),
+      omega (arith, column-end (c .before .before .before .before), sizes start),
+      omega (arith, edge start .slot-end, sizes start),
+    )
 
 same-length : tie.Need-same-length
 same-length c = search needs
@@ -79,8 +64,8 @@ same-length c = search needs
 returns : tie.Need-returns
 returns c =
     let start = c .before .before .before .before .before .before .before .before .before .before .before .before in
-    let K = known (start .args .c) (start .args .s) (length (start .args .work .now)) (start .pre .0) in
-    let E = edge-in (start .args .c) (start .args .s) (length (start .args .work .now)) K (start .args .column .now) (start .args .turn .now) (start .pre .1) (start .args .b) (start .pre .2) in
+    let K = sizes start in
+    let E = edge start in
     let g = codeGraph (start .args .c) in
     let z = start .args .c .z in
     let b = start .args .b in

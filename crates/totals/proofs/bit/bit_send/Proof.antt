@@ -59,18 +59,18 @@ wide8-requires : tie.Need-wide8-requires Inv-loop μ-loop
 wide8-requires c κs = search needs
 
 -- what is known of the base edge of a turn
-reached : (c : tie.After-wide8 Inv-loop μ-loop) → let a = c .before .before .before .before .before .before .before .args in
+fit : (c : tie.After-wide8 Inv-loop μ-loop) → let a = c .before .before .before .before .before .before .before .args in
     Fits (a .z) (a .at) (a .msg) (length (a .work .now)) (a .turn .now) (getD (a .edges .now) (c .before .before .before .loop .i) 0)
-reached c = c .before .before .before .before .before .before .before .pre .2 (c .before .before .before .loop .i) (c .before .before .loop-test .taken)
+fit c = c .before .before .before .before .before .before .before .pre .2 (c .before .before .before .loop .i) (c .before .before .loop-test .taken)
 
 mul-edge-slot : tie.Need-mul-edge-slot Inv-loop μ-loop
-mul-edge-slot c = omega (arith, c .wide8 .ensures, reached c .turn-there)
+mul-edge-slot c = omega (arith, c .wide8 .ensures, fit c .turn-there)
 
 shared-slice-read-edge-slot : tie.Need-shared-slice-read-edge-slot Inv-loop μ-loop
-shared-slice-read-edge-slot c = omega (arith, c .before .wide8 .ensures, reached (c .before) .turn-there)
+shared-slice-read-edge-slot c = omega (arith, c .before .wide8 .ensures, fit (c .before) .turn-there)
 
 edge-slot-requires : tie.Need-edge-slot-requires Inv-loop μ-loop
-edge-slot-requires c κs = (c .before .before .before .before .before .before .before .before .pre .0, c .before .before .before .before .before .before .before .before .pre .1, rw (c .before .wide8 .ensures) (reached (c .before) .turn-lt))
+edge-slot-requires c κs = (c .before .before .before .before .before .before .before .before .pre .0, c .before .before .before .before .before .before .before .before .pre .1, rw (c .before .wide8 .ensures) (fit (c .before) .turn-lt))
 
 slot-is : (c : tie.After-edge-slot Inv-loop μ-loop) → let a = c .before .before .before .before .before .before .before .before .before .args in
     c .edge-slot .result ≡ joinedSlot (a .z) (a .turn .now) (a .j) (getD (a .edges .now) (c .before .before .before .before .before .loop .i) 0)
@@ -82,7 +82,7 @@ inside : (c : tie.After-edge-slot Inv-loop μ-loop) → let a = c .before .befor
 inside c =
     let a = c .before .before .before .before .before .before .before .before .before .args in
     let l = joined-lt (a .z) (a .j) (a .edges .now) (a .turn .now) (c .before .before .before .before .before .before .before .before .before .pre .0) (λ i h. c .before .before .before .before .before .before .before .before .before .pre .2 i h .turn-lt) (getD (a .edges .now) (c .before .before .before .before .before .loop .i) 0) in
-    let r = reached (c .before .before) in
+    let r = fit (c .before .before) in
     (omega (arith, slot-is c, l, r .before), omega (arith, slot-is c, l, r .inside))
 
 add-work : tie.Need-add-work Inv-loop μ-loop

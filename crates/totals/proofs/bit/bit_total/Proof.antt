@@ -46,18 +46,18 @@ wide8-requires : tie.Need-wide8-requires Inv-loop μ-loop
 wide8-requires c κs = search needs
 
 -- what is known of the base edge of a turn
-reached : (c : tie.After-wide8 Inv-loop μ-loop) → let a = c .before .before .before .before .before .before .before .before .args in
+fit : (c : tie.After-wide8 Inv-loop μ-loop) → let a = c .before .before .before .before .before .before .before .before .args in
     Fits (a .z) 0 (a .msg) (length (a .work .now)) (a .turn .now) (getD (a .edges .now) (c .before .before .before .loop .i) 0)
-reached c = c .before .before .before .before .before .before .before .before .pre .3 (c .before .before .before .loop .i) (c .before .before .loop-test .taken)
+fit c = c .before .before .before .before .before .before .before .before .pre .3 (c .before .before .before .loop .i) (c .before .before .loop-test .taken)
 
 mul-edge-slot : tie.Need-mul-edge-slot Inv-loop μ-loop
-mul-edge-slot c = omega (arith, c .wide8 .ensures, reached c .turn-there)
+mul-edge-slot c = omega (arith, c .wide8 .ensures, fit c .turn-there)
 
 shared-slice-read-edge-slot : tie.Need-shared-slice-read-edge-slot Inv-loop μ-loop
-shared-slice-read-edge-slot c = omega (arith, c .before .wide8 .ensures, reached (c .before) .turn-there)
+shared-slice-read-edge-slot c = omega (arith, c .before .wide8 .ensures, fit (c .before) .turn-there)
 
 edge-slot-requires : tie.Need-edge-slot-requires Inv-loop μ-loop
-edge-slot-requires c κs = (c .before .before .before .before .before .before .before .before .before .pre .0, c .before .before .before .before .before .before .before .before .before .pre .1, rw (c .before .wide8 .ensures) (reached (c .before) .turn-lt))
+edge-slot-requires c κs = (c .before .before .before .before .before .before .before .before .before .pre .0, c .before .before .before .before .before .before .before .before .before .pre .1, rw (c .before .wide8 .ensures) (fit (c .before) .turn-lt))
 
 slot-is : (c : tie.After-edge-slot Inv-loop μ-loop) → let a = c .before .before .before .before .before .before .before .before .before .before .args in
     c .edge-slot .result ≡ joinedSlot (a .z) (a .turn .now) (a .j) (getD (a .edges .now) (c .before .before .before .before .before .loop .i) 0)
@@ -67,7 +67,7 @@ slot-is c = c .edge-slot .ensures ∙ (rw (c .before .before .wide8 .ensures))
 inside : (c : tie.After-edge-slot Inv-loop μ-loop) → c .before .before .before .before .before .before .before .before .before .before .args .msg + c .edge-slot .result < length (c .before .before .before .before .before .before .before .before .before .before .args .work .now)
 inside c =
     let a = c .before .before .before .before .before .before .before .before .before .before .args in
-    omega (arith, slot-is c, joined-lt (a .z) (a .j) (a .edges .now) (a .turn .now) (c .before .before .before .before .before .before .before .before .before .before .pre .0) (λ i h. c .before .before .before .before .before .before .before .before .before .before .pre .3 i h .turn-lt) (getD (a .edges .now) (c .before .before .before .before .before .loop .i) 0), reached (c .before .before) .inside)
+    omega (arith, slot-is c, joined-lt (a .z) (a .j) (a .edges .now) (a .turn .now) (c .before .before .before .before .before .before .before .before .before .before .pre .0) (λ i h. c .before .before .before .before .before .before .before .before .before .before .pre .3 i h .turn-lt) (getD (a .edges .now) (c .before .before .before .before .before .loop .i) 0), fit (c .before .before) .inside)
 
 add-sum : tie.Need-add-sum Inv-loop μ-loop
 add-sum c = omega (arith, inside c)

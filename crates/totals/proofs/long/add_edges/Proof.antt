@@ -1,5 +1,5 @@
 -- `add_edges` meets its contract. The invariant: the messages over the first i base edges are added. Assumes nothing.
-use mathlib.Core.Path.{refl, ap, _∙_, subst}
+use mathlib.Core.Path.{refl, sym, ap, _∙_, subst}
 use Prim.Native.Nat.{ℕ, _+_, _*_, _-_, _≤_}
 use native.Mathlib.Omega.{arith}
 use borrow.Author.Needs.{needs}
@@ -8,8 +8,8 @@ use lib.Seq.{take-all}
 use Rattle.laws.specs.Range.{folded}
 use Rattle.messages.specs.Memory.{reading}
 use Rattle.slots.specs.Row.{Ran}
-use Rattle.totals.specs.Joined.{totalOver}
-use Rattle.totals.proofs.ByRuns.{edge-fits, total-more}
+use Rattle.totals.specs.Joined.{totalOver, Fits}
+use Rattle.totals.proofs.ByRuns.{total-more}
 use Rattle.totals.proofs.long.add_edges.Statement.{statement}
 use Rattle.totals.proofs.long.add_edges.Tie as tie
 
@@ -30,25 +30,25 @@ shared-slice-read-wide8 c = omega arith
 wide8-requires : tie.Need-wide8-requires Inv-loop μ-loop
 wide8-requires c κs = search needs
 
+-- what is known of the base edge of a turn
+fit : (c : tie.After-wide8 Inv-loop μ-loop) → let a = c .before .before .before .before .before .before .before .args in
+    Fits (a .z) 0 (a .msg) (length (a .work .now)) (a .turn .now) (c .wide8 .result)
+fit c =
+    let start = c .before .before .before .before .before .before .before in
+    subst (Fits (start .args .z) 0 (start .args .msg) (length (start .args .work .now)) (start .args .turn .now)) (sym (c .wide8 .ensures))
+    (start .pre .2 (c .before .before .before .loop .i) (c .before .before .loop-test .taken))
+
 mul-add-turned : tie.Need-mul-add-turned Inv-loop μ-loop
-mul-add-turned c =
-    let a = c .before .before .before .before .before .before .before .before .args in
-    omega (arith, edge-fits (a .z) 0 (a .msg) (length (a .work .now)) (a .turn .now) (a .edges .now) (c .before .before .before .before .before .before .before .before .pre .2) (c .before .before .before .before .loop .i) (c .before .before .before .loop-test .taken) (c .before .wide8 .result) (c .before .wide8 .ensures))
+mul-add-turned c = omega (arith, fit (c .before))
 
 add-add-turned : tie.Need-add-add-turned Inv-loop μ-loop
-add-add-turned c =
-    let a = c .before .before .before .before .before .before .before .before .args in
-    omega (arith, edge-fits (a .z) 0 (a .msg) (length (a .work .now)) (a .turn .now) (a .edges .now) (c .before .before .before .before .before .before .before .before .pre .2) (c .before .before .before .before .loop .i) (c .before .before .before .loop-test .taken) (c .before .wide8 .result) (c .before .wide8 .ensures))
+add-add-turned c = omega (arith, fit (c .before))
 
 mul-wide16 : tie.Need-mul-wide16 Inv-loop μ-loop
-mul-wide16 c =
-    let a = c .before .before .before .before .before .before .before .before .args in
-    omega (arith, edge-fits (a .z) 0 (a .msg) (length (a .work .now)) (a .turn .now) (a .edges .now) (c .before .before .before .before .before .before .before .before .pre .2) (c .before .before .before .before .loop .i) (c .before .before .before .loop-test .taken) (c .before .wide8 .result) (c .before .wide8 .ensures))
+mul-wide16 c = omega (arith, fit (c .before))
 
 shared-slice-read-wide16 : tie.Need-shared-slice-read-wide16 Inv-loop μ-loop
-shared-slice-read-wide16 c =
-    let a = c .before .before .before .before .before .before .before .before .before .args in
-    omega (arith, edge-fits (a .z) 0 (a .msg) (length (a .work .now)) (a .turn .now) (a .edges .now) (c .before .before .before .before .before .before .before .before .before .pre .2) (c .before .before .before .before .before .loop .i) (c .before .before .before .before .loop-test .taken) (c .before .before .wide8 .result) (c .before .before .wide8 .ensures))
+shared-slice-read-wide16 c = omega (arith, fit (c .before .before))
 
 wide16-requires : tie.Need-wide16-requires Inv-loop μ-loop
 wide16-requires c κs = search needs
@@ -57,7 +57,7 @@ add-turned-requires : tie.Need-add-turned-requires Inv-loop μ-loop
 add-turned-requires c κs =
     let start = c .before .before .before .before .before .before .before .before .before .before in
     let a = start .args in
-    let r = edge-fits (a .z) 0 (a .msg) (length (a .work .now)) (a .turn .now) (a .edges .now) (start .pre .2) (c .before .before .before .before .before .before .loop .i) (c .before .before .before .before .before .loop-test .taken) (c .before .before .before .wide8 .result) (c .before .before .before .wide8 .ensures) in
+    let r = fit (c .before .before .before) in
     (omega (arith, r .turn-lt, c .wide16 .ensures), omega (arith, start .pre .1), omega (arith, r .inside, c .before .before .before .before .before .before .loop .inv .1 .long))
 
 add-i : tie.Need-add-i Inv-loop μ-loop

@@ -1,5 +1,5 @@
 -- `send_edges` meets its contract. The invariant: the slots of the first i base edges are written. Assumes nothing.
-use mathlib.Core.Path.{_≡_, ap, _∙_, subst}
+use mathlib.Core.Path.{_≡_, sym, ap, _∙_, subst}
 use Prim.Native.Nat.{ℕ, _+_, _*_, _-_, _%_, _≤_}
 use native.Mathlib.Omega.{arith}
 use borrow.Author.Needs.{needs}
@@ -9,8 +9,8 @@ use Rattle.laws.specs.Written.{Written}
 use Rattle.laws.proofs.Written.{none}
 use Rattle.messages.specs.Memory.{reading}
 use Rattle.slots.specs.Row.{Of, Ran}
-use Rattle.totals.specs.Joined.{lessTotal}
-use Rattle.totals.proofs.ByRuns.{edge-fits, send-more}
+use Rattle.totals.specs.Joined.{lessTotal, Fits}
+use Rattle.totals.proofs.ByRuns.{send-more}
 use Rattle.totals.proofs.long.send_edges.Statement.{statement}
 use Rattle.totals.proofs.long.send_edges.Tie as tie
 
@@ -30,30 +30,28 @@ shared-slice-read-wide8 c = omega arith
 wide8-requires : tie.Need-wide8-requires Inv-loop μ-loop
 wide8-requires c κs = search needs
 
+-- what is known of the base edge of a turn
+fit : (c : tie.After-wide8 Inv-loop μ-loop) → let a = c .before .before .before .before .before .before .before .args in
+    Fits (a .z) (a .at) (a .msg) (length (a .work .now)) (a .turn .now) (c .wide8 .result)
+fit c =
+    let start = c .before .before .before .before .before .before .before in
+    subst (Fits (start .args .z) (start .args .at) (start .args .msg) (length (start .args .work .now)) (start .args .turn .now)) (sym (c .wide8 .ensures))
+    (start .pre .3 (c .before .before .before .loop .i) (c .before .before .loop-test .taken))
+
 mul-s : tie.Need-mul-s Inv-loop μ-loop
-mul-s c =
-    let a = c .before .before .before .before .before .before .before .args in
-    omega (arith, edge-fits (a .z) (a .at) (a .msg) (length (a .work .now)) (a .turn .now) (a .edges .now) (c .before .before .before .before .before .before .before .pre .3) (c .before .before .before .loop .i) (c .before .before .loop-test .taken) (c .wide8 .result) (c .wide8 .ensures))
+mul-s c = omega (arith, fit c)
 
 add-subtract-turned : tie.Need-add-subtract-turned Inv-loop μ-loop
-add-subtract-turned c =
-    let a = c .before .before .before .before .before .before .before .before .args in
-    omega (arith, edge-fits (a .z) (a .at) (a .msg) (length (a .work .now)) (a .turn .now) (a .edges .now) (c .before .before .before .before .before .before .before .before .pre .3) (c .before .before .before .before .loop .i) (c .before .before .before .loop-test .taken) (c .before .wide8 .result) (c .before .wide8 .ensures))
+add-subtract-turned c = omega (arith, fit (c .before))
 
 add-subtract-turned-2 : tie.Need-add-subtract-turned-2 Inv-loop μ-loop
-add-subtract-turned-2 c =
-    let a = c .before .before .before .before .before .before .before .before .args in
-    omega (arith, edge-fits (a .z) (a .at) (a .msg) (length (a .work .now)) (a .turn .now) (a .edges .now) (c .before .before .before .before .before .before .before .before .pre .3) (c .before .before .before .before .loop .i) (c .before .before .before .loop-test .taken) (c .before .wide8 .result) (c .before .wide8 .ensures))
+add-subtract-turned-2 c = omega (arith, fit (c .before))
 
 mul-wide16 : tie.Need-mul-wide16 Inv-loop μ-loop
-mul-wide16 c =
-    let a = c .before .before .before .before .before .before .before .before .args in
-    omega (arith, edge-fits (a .z) (a .at) (a .msg) (length (a .work .now)) (a .turn .now) (a .edges .now) (c .before .before .before .before .before .before .before .before .pre .3) (c .before .before .before .before .loop .i) (c .before .before .before .loop-test .taken) (c .before .wide8 .result) (c .before .wide8 .ensures))
+mul-wide16 c = omega (arith, fit (c .before))
 
 shared-slice-read-wide16 : tie.Need-shared-slice-read-wide16 Inv-loop μ-loop
-shared-slice-read-wide16 c =
-    let a = c .before .before .before .before .before .before .before .before .before .args in
-    omega (arith, edge-fits (a .z) (a .at) (a .msg) (length (a .work .now)) (a .turn .now) (a .edges .now) (c .before .before .before .before .before .before .before .before .before .pre .3) (c .before .before .before .before .before .loop .i) (c .before .before .before .before .loop-test .taken) (c .before .before .wide8 .result) (c .before .before .wide8 .ensures))
+shared-slice-read-wide16 c = omega (arith, fit (c .before .before))
 
 wide16-requires : tie.Need-wide16-requires Inv-loop μ-loop
 wide16-requires c κs = search needs
@@ -62,7 +60,7 @@ subtract-turned-requires : tie.Need-subtract-turned-requires Inv-loop μ-loop
 subtract-turned-requires c κs =
     let start = c .before .before .before .before .before .before .before .before .before .before in
     let a = start .args in
-    let r = edge-fits (a .z) (a .at) (a .msg) (length (a .work .now)) (a .turn .now) (a .edges .now) (start .pre .3) (c .before .before .before .before .before .before .loop .i) (c .before .before .before .before .before .loop-test .taken) (c .before .before .before .wide8 .result) (c .before .before .before .wide8 .ensures) in (
+    let r = fit (c .before .before .before) in (
       omega (arith, r .turn-lt, c .wide16 .ensures),
       omega (arith, start .pre .2),
       omega (arith, r .before),
