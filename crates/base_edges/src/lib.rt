@@ -1,12 +1,14 @@
 // The base edges of a graph, and the bit that one joins to a check: 01, "Base edges". What a function requires, its callers meet, in
 // the crates of codes above.
+#![tactic(auto)]
+
 ghost use Rattle.std.specs.Prelude.{◌≡◌, ◌+◌, ◌*◌, ◌%◌, ◌<◌, ◌≤◌};
 ghost use Rattle.base_edges.specs.Edge.{graph_in, edge_of, edges_in};
 
 use tables::Shape;
 
 // A base edge: its row, its column and its shift.
-#[derive(Drop)]
+#[derive(Clone, Copy)]
 pub struct Edge {
     pub row: usize,
     pub column: usize,

@@ -1,5 +1,7 @@
 // What codes do with no code at hand: runs of bits that are bytes, added and turned; the bytes of a word. What a function requires,
 // its callers meet, in the crates of codes above. Assumes nothing else.
+#![tactic(auto)]
+
 mod rows;
 mod sums;
 mod words;

@@ -4,7 +4,7 @@ ghost use Rattle.laws.specs.Written.{tabulate};
 ghost use Rattle.bits.specs.Sums.{differing, Bits, Added, AddedTurned, clip};
 
 // Where the bits of a column stand in a transmitted word, and how many of them are there; the others are 0.
-#[derive(Drop)]
+#[derive(Clone, Copy)]
 pub struct Part {
     pub from: usize,
     pub there: usize,

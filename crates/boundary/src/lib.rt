@@ -1,5 +1,7 @@
 // What the functions of the C boundary share: records and answers as plain numbers in lent slices, and the definitions of what
 // each call tells. What these functions require, the ffi crates meet: they test the sizes first.
+#![tactic(auto)]
+
 mod answers;
 mod codes;
 mod records;

@@ -1,4 +1,6 @@
 // The bit pass column after column. What these functions require, their callers in this crate and minsum meet.
+#![tactic(auto)]
+
 ghost use Rattle.std.specs.Prelude.{◌≡◌, true, ◌+◌, ◌<◌, ◌≤◌, length, take};
 ghost use Rattle.matrix.specs.Edges.{ColumnList};
 ghost use Rattle.messages.specs.Iteration.{total_pass, send_pass};
@@ -11,7 +13,7 @@ use ldpc::Code;
 use sizes::Sizes;
 
 // The base edges of a column in rising row: the first n of three.
-#[derive(Drop)]
+#[derive(Clone, Copy)]
 struct Listed {
     edges: [u8; 3],
     n: usize,

@@ -1,5 +1,7 @@
 // What Start writes: the readings become the channel, the totals and the messages to the checks. 01, "Start". With it the two
 // sizes that every call of a decode needs. What these functions require, their callers in this crate, word and decoder meet.
+#![tactic(auto)]
+
 mod spread;
 
 ghost use Rattle.std.specs.Prelude.{◌≡◌, true, ◌+◌, ◌≤◌, length, get_or};

@@ -1,5 +1,7 @@
 // The transmitted members of a check, found edge by edge over a graph that is lent. What these functions require, their caller
 // `check_members` in coder meets.
+#![tactic(auto)]
+
 ghost use Rattle.std.specs.Prelude.{◌≡◌, true, ◌++◌, ◌<◌, ◌≤◌, length, drop};
 ghost use Rattle.laws.specs.Range.{count, collect};
 ghost use Rattle.matrix.specs.Edges.{edges};
@@ -12,7 +14,7 @@ use ldpc::Code;
 use tables::Shape;
 
 // The place of a transmitted bit, where there is one.
-#[derive(Drop)]
+#[derive(Clone, Copy)]
 pub enum Sent {
     Place(usize),
     None,

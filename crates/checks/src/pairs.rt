@@ -13,7 +13,7 @@ use rule::Least;
 use slots::{place, slot};
 
 // What the checks of two blocks have gathered.
-#[derive(Drop)]
+#[derive(Clone, Copy)]
 struct Pair {
     first: [Least; 4],
     second: [Least; 4],

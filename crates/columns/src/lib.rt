@@ -1,5 +1,7 @@
 // The information columns of a base graph as two flat lists, rows and shifts: where a column has a row, and refusal 4. What a call
 // requires, its callers in the crates of graph design meet.
+#![tactic(auto)]
+
 ghost use Rattle.std.specs.Prelude.{◌≡◌, ◌+◌, ◌*◌, ◌<◌, ◌≤◌, eqb, length, get_or};
 ghost use Rattle.laws.specs.Range.{first};
 ghost use Rattle.laws.specs.Columns.{has_row, shift_on, faulty, first_fault};

@@ -1,5 +1,7 @@
 // Prints 01's commissioning table in its order, with a star on the rows that are starred there. The file stdout was written by
 // the oracle, which holds the Rust's answers to what 01 says.
+#![tactic(auto)]
+
 mod decodes;
 
 ghost use Rattle.std.specs.Prelude.{◌≡◌};
@@ -7,135 +9,138 @@ ghost use Rattle.coder.specs.Calls.{encode_written};
 
 use ldpc::{Choice, Code};
 use refusals::{Counted, Filled};
+use std::io;
 
-pub fn print_asked(rate: usize, n_tx: usize) {
-    text::print_bytes(b"(");
-    text::print_number(rate, b',');
-    text::print_number(n_tx, b')');
+pub fn print_asked(rt: &impl Print, rate: usize, n_tx: usize) -> io::Result<()> {
+    text::print_bytes(rt, b"(")?;
+    text::print_number(rt, rate, b',')?;
+    text::print_number(rt, n_tx, b')')
 }
 
-pub fn print_star(starred: bool) {
+pub fn print_star(rt: &impl Print, starred: bool) -> io::Result<()> {
     if starred {
-        text::print_bytes(b"*");
+        text::print_bytes(rt, b"*")?;
     }
+    Ok(())
 }
 
-fn print_family(family: usize) {
+fn print_family(rt: &impl Print, family: usize) -> io::Result<()> {
     match family {
-        0 => text::print_bytes(b"large"),
-        1 => text::print_bytes(b"small"),
-        _ => text::print_bytes(b"tiny"),
+        0 => text::print_bytes(rt, b"large"),
+        1 => text::print_bytes(rt, b"small"),
+        _ => text::print_bytes(rt, b"tiny"),
     }
 }
 
-fn print_sizes(c: Code, after: u8) {
-    print_family(c.family);
-    text::print_bytes(b", z ");
-    text::print_number(c.z, b',');
-    text::print_bytes(b" k ");
-    text::print_number(c.k, b',');
-    text::print_bytes(b" shortened ");
-    text::print_number(c.shortened, after);
+fn print_sizes(rt: &impl Print, c: Code, after: u8) -> io::Result<()> {
+    print_family(rt, c.family)?;
+    text::print_bytes(rt, b", z ")?;
+    text::print_number(rt, c.z, b',')?;
+    text::print_bytes(rt, b" k ")?;
+    text::print_number(rt, c.k, b',')?;
+    text::print_bytes(rt, b" shortened ")?;
+    text::print_number(rt, c.shortened, after)
 }
 
 // What Choice answers, and the byte after it.
-fn print_answer(rate: usize, n_tx: usize, after: u8) {
-    print_asked(rate, n_tx);
-    text::print_bytes(b": ");
+fn print_answer(rt: &impl Print, rate: usize, n_tx: usize, after: u8) -> io::Result<()> {
+    print_asked(rt, rate, n_tx)?;
+    text::print_bytes(rt, b": ")?;
     let choice = Code::new(rate, n_tx);
     match choice {
-        Choice::Made(c) => print_sizes(c, after),
-        Choice::Refused(r) => text::print_refusal(r, after),
+        Choice::Made(c) => print_sizes(rt, c, after),
+        Choice::Refused(r) => text::print_refusal(rt, r, after),
     }
 }
 
-fn print_code(starred: bool, rate: usize, n_tx: usize) {
-    print_star(starred);
-    print_answer(rate, n_tx, b'\n');
+fn print_code(rt: &impl Print, starred: bool, rate: usize, n_tx: usize) -> io::Result<()> {
+    print_star(rt, starred)?;
+    print_answer(rt, rate, n_tx, b'\n')
 }
 
 // A code that is to be the same as one of another rate.
-fn print_same(rate: usize, other: usize, n_tx: usize) {
-    print_answer(rate, n_tx, b',');
-    text::print_bytes(b" as ");
-    print_answer(other, n_tx, b'\n');
+fn print_same(rt: &impl Print, rate: usize, other: usize, n_tx: usize) -> io::Result<()> {
+    print_answer(rt, rate, n_tx, b',')?;
+    text::print_bytes(rt, b" as ")?;
+    print_answer(rt, other, n_tx, b'\n')
 }
 
-fn print_encoded(c: Code, info: &[u8], word: &mut [u8])
+fn print_encoded(rt: &impl Print, c: Code, info: &[u8], word: &mut [u8]) -> io::Result<()>
     ensures { word.new ≡ encode_written c info.now word.old }
 {
     let answer = coder::encode(c, info, word);
     match answer {
-        Filled::Done => text::print_bits(word),
-        Filled::Refused(r) => text::print_refusal(r, b' '),
+        Filled::Done => text::print_bits(rt, word),
+        Filled::Refused(r) => text::print_refusal(rt, r, b' '),
     }
 }
 
 // An encoding by the code that Choice gives; the longest has 22 bits.
-fn print_chosen(rate: usize, n_tx: usize, info: &[u8]) {
+fn print_chosen(rt: &impl Print, rate: usize, n_tx: usize, info: &[u8]) -> io::Result<()> {
     if 22 < n_tx {
-        return;
+        return Ok(());
     }
     let mut word: [u8; 22] = [0; 22];
     let choice = Code::new(rate, n_tx);
     match choice {
-        Choice::Made(c) => print_encoded(c, info, &mut word[..n_tx]),
-        Choice::Refused(r) => text::print_refusal(r, b' '),
+        Choice::Made(c) => print_encoded(rt, c, info, &mut word[..n_tx]),
+        Choice::Refused(r) => text::print_refusal(rt, r, b' '),
     }
 }
 
 // A row of the encodings, each of which is starred.
-fn print_encoding(rate: usize, n_tx: usize, info: &[u8]) {
-    print_star(true);
-    print_asked(rate, n_tx);
-    text::print_bytes(b" ");
-    text::print_bits(info);
-    text::print_bytes(b" gives ");
-    print_chosen(rate, n_tx, info);
-    text::print_bytes(b"\n");
+fn print_encoding(rt: &impl Print, rate: usize, n_tx: usize, info: &[u8]) -> io::Result<()> {
+    print_star(rt, true)?;
+    print_asked(rt, rate, n_tx)?;
+    text::print_bytes(rt, b" ")?;
+    text::print_bits(rt, info)?;
+    text::print_bytes(rt, b" gives ")?;
+    print_chosen(rt, rate, n_tx, info)?;
+    text::print_bytes(rt, b"\n")
 }
 
-fn print_codes() {
-    print_code(true, 0, 3);
-    print_code(true, 0, 4);
-    print_code(true, 0, 9);
-    print_code(true, 0, 10);
-    print_code(true, 4, 10);
-    print_code(true, 4, 11);
-    print_code(false, 4, 12);
-    print_code(false, 5, 20);
-    print_code(true, 5, 21);
-    print_code(true, 5, 22);
-    print_same(9, 5, 10);
-    print_code(false, 0, 61);
-    print_code(false, 0, 19440);
-    print_code(false, 0, 19441);
+fn print_codes(rt: &impl Print) -> io::Result<()> {
+    print_code(rt, true, 0, 3)?;
+    print_code(rt, true, 0, 4)?;
+    print_code(rt, true, 0, 9)?;
+    print_code(rt, true, 0, 10)?;
+    print_code(rt, true, 4, 10)?;
+    print_code(rt, true, 4, 11)?;
+    print_code(rt, false, 4, 12)?;
+    print_code(rt, false, 5, 20)?;
+    print_code(rt, true, 5, 21)?;
+    print_code(rt, true, 5, 22)?;
+    print_same(rt, 9, 5, 10)?;
+    print_code(rt, false, 0, 61)?;
+    print_code(rt, false, 0, 19440)?;
+    print_code(rt, false, 0, 19441)
 }
 
 // Of two columns of a graph with 5 base columns.
-fn print_cycles(rows: &[u8], shifts: &[u16], z: usize, after: u8) {
-    text::print_number(z, b':');
-    text::print_bytes(b" ");
+fn print_cycles(rt: &impl Print, rows: &[u8], shifts: &[u16], z: usize, after: u8) -> io::Result<()> {
+    text::print_number(rt, z, b':')?;
+    text::print_bytes(rt, b" ")?;
     match graph::four_cycles(5, 2, rows, shifts, z) {
-        Counted::Count(n) => text::print_number(n, after),
-        Counted::Refused(r) => text::print_refusal(r, after),
+        Counted::Count(n) => text::print_number(rt, n, after),
+        Counted::Refused(r) => text::print_refusal(rt, r, after),
     }
 }
 
-fn print_four_cycles() {
-    text::print_bytes(b"columns (0,0)(1,0)(2,0) and (0,0)(1,0)(2,1), n_b 5: four-cycles at z ");
+fn print_four_cycles(rt: &impl Print) -> io::Result<()> {
+    text::print_bytes(rt, b"columns (0,0)(1,0)(2,0) and (0,0)(1,0)(2,1), n_b 5: four-cycles at z ")?;
     let rows: [u8; 6] = [0, 1, 2, 0, 1, 2];
     let shifts: [u16; 6] = [0, 0, 0, 0, 0, 1];
-    print_cycles(&rows, &shifts, 5, b',');
-    text::print_bytes(b" at z ");
-    print_cycles(&rows, &shifts, 1, b'\n');
+    print_cycles(rt, &rows, &shifts, 5, b',')?;
+    text::print_bytes(rt, b" at z ")?;
+    print_cycles(rt, &rows, &shifts, 1, b'\n')
 }
 
-fn main() {
-    print_codes();
-    print_encoding(5, 10, &[1, 0, 0]);
-    print_encoding(5, 10, &[0, 1, 0]);
-    print_encoding(5, 22, &[1]);
-    decodes::print_decodes();
-    print_four_cycles();
+fn main(rt: HostRuntime) -> io::Result<()> {
+    print_codes(&rt)?;
+    print_encoding(&rt, 5, 10, &[1, 0, 0])?;
+    print_encoding(&rt, 5, 10, &[0, 1, 0])?;
+    print_encoding(&rt, 5, 22, &[1])?;
+    decodes::print_decodes(&rt)?;
+    print_four_cycles(&rt)?;
+    Ok(())
 }

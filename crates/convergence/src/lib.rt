@@ -1,5 +1,7 @@
 // The convergence test: whether the decisions meet every check, by the lists of the call. What these functions require, their
 // callers in this crate and runs meet.
+#![tactic(auto)]
+
 mod offsets;
 mod row;
 

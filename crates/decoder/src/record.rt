@@ -3,7 +3,7 @@ use ldpc::Code;
 use refusals::Refusal;
 
 // A decode under way: its code, the iterations done, and whether the last of them converged.
-#[derive(Drop)]
+#[derive(Clone, Copy)]
 pub struct Decode {
     pub code: Code,
     pub iterations: u16,
@@ -11,7 +11,7 @@ pub struct Decode {
 }
 
 // What a read tells beside the word.
-#[derive(Drop)]
+#[derive(Clone, Copy)]
 pub struct DecodeResult {
     pub iterations: u16,
     pub converged: bool,
@@ -19,14 +19,14 @@ pub struct DecodeResult {
 }
 
 // The answer of start and of grant.
-#[derive(Drop)]
+#[derive(Clone, Copy)]
 pub enum Granted {
     Decode(Decode),
     Refused(Refusal),
 }
 
 // The answer of read and of the one call.
-#[derive(Drop)]
+#[derive(Clone, Copy)]
 pub enum ReadOut {
     Result(DecodeResult),
     Refused(Refusal),

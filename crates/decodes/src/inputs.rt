@@ -6,6 +6,7 @@ ghost use Rattle.decodes.specs.Inputs.{information, sent};
 use crate::answers::print_decode;
 use ldpc::Code;
 use readings::{fill_bits, fill_readings};
+use std::io;
 
 // Computes the information, its encoding and the encoding's readings, in memory of the right lengths.
 fn write_readings(
@@ -25,28 +26,28 @@ fn write_readings(
     fill_readings(kind, seed, word, rx);
 }
 
-fn print_limits(rate: usize, kind: usize, seed: usize, rx: &[f32]) {
-    print_decode(rate, kind, seed, 0, rx);
-    print_decode(rate, kind, seed, 1, rx);
-    print_decode(rate, kind, seed, 2, rx);
-    print_decode(rate, kind, seed, 5, rx);
-    print_decode(rate, kind, seed, 50, rx);
+fn print_limits(rt: &impl Print, rate: usize, kind: usize, seed: usize, rx: &[f32]) -> io::Result<()> {
+    print_decode(rt, rate, kind, seed, 0, rx)?;
+    print_decode(rt, rate, kind, seed, 1, rx)?;
+    print_decode(rt, rate, kind, seed, 2, rx)?;
+    print_decode(rt, rate, kind, seed, 5, rx)?;
+    print_decode(rt, rate, kind, seed, 50, rx)
 }
 
 // Codes of up to 1,000 bits.
-pub fn print_decodes(c: Code, rate: usize, kind: usize, seed: usize) {
+pub fn print_decodes(rt: &impl Print, c: Code, rate: usize, kind: usize, seed: usize) -> io::Result<()> {
     let k = c.info_bits();
     let n = c.coded_bits();
     if 1000 < k {
-        return;
+        return Ok(());
     }
     if 1000 < n {
-        return;
+        return Ok(());
     }
     let mut info: [u8; 1000] = [0; 1000];
     let mut word: [u8; 1000] = [0; 1000];
     let mut room: [f32; 1000] = [0.0; 1000];
     let rx = &mut room[..n];
     write_readings(c, kind, seed, &mut info[..k], &mut word[..n], rx);
-    print_limits(rate, kind, seed, rx);
+    print_limits(rt, rate, kind, seed, rx)
 }

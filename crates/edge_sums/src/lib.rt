@@ -1,6 +1,8 @@
 // Sums modulo 2 of bits over base edges: the syndrome of a word, and the information sums of an encoding. A column of the
 // lifted word is turned in two runs, so that no bit asks for a remainder. What `row_sums` requires, its callers in stairs and
 // coder meet.
+#![tactic(auto)]
+
 ghost use Rattle.std.specs.Prelude.{◌≡◌, true, ◌+◌, ◌*◌, ◌<◌, ◌≤◌, length};
 ghost use Rattle.matrix.specs.Edges.{edges};
 ghost use Rattle.base_edges.specs.Edge.{graph_in, edge_of};

@@ -1,5 +1,7 @@
 // Graph design after the decoder: 01, "Graph design". Information columns are lent as 3 * k_b row bytes and as many 16-bit shifts.
 // Whatever a call refuses it leaves as it was. Assumes nothing.
+#![tactic(auto)]
+
 mod assign;
 mod count;
 mod design;

@@ -1,4 +1,6 @@
 // Edge growth: 01, "Growth". `grow` is pub only because the crate graph calls it; its callers meet what it requires.
+#![tactic(auto)]
+
 mod choice;
 mod first;
 mod search;

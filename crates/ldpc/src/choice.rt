@@ -8,7 +8,7 @@ use tables::Shape;
 
 // A code: the rate's index, the transmitted bits, the family (0 large, 1 small, 2 tiny), the lift, the information bits
 // and the shortened bits.
-#[derive(Drop)]
+#[derive(Clone, Copy)]
 pub struct Code {
     pub rate: usize,
     pub n_tx: usize,
@@ -18,7 +18,7 @@ pub struct Code {
     pub shortened: usize,
 }
 
-#[derive(Drop)]
+#[derive(Clone, Copy)]
 pub enum Choice {
     Made(Code),
     Refused(Refusal),

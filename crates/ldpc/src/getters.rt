@@ -8,7 +8,7 @@ use base_edges::Edge;
 use tables::Shape;
 
 // The answer of `base_edge`.
-#[derive(Drop)]
+#[derive(Clone, Copy)]
 pub enum EdgeAt {
     Edge(Edge),
     None,

@@ -1,1 +1,2 @@
 // No code: one iteration of min-sum over the work memory, and its laws.
+#![tactic(auto)]

@@ -1,5 +1,7 @@
 // One iteration of normalised min-sum over the work memory: 01, "Iteration". Each pass goes by the lists of the call.
 // What these functions require, their callers in this crate and runs meet.
+#![tactic(auto)]
+
 ghost use Rattle.std.specs.Prelude.{◌≡◌, ◌<◌, length};
 ghost use Rattle.messages.specs.Iteration.{check_pass, iteration};
 ghost use Rattle.ldpc.specs.Code.{code_graph};

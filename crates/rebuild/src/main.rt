@@ -1,12 +1,15 @@
 // Builds the 18 base graphs from their seeds and prints a line for each: the family, the rate, how many columns differ from the
 // table crate's, and the four-cycles at the lifts 2, 8, 32, 128 and 324 that tables.rs reports. The file stdout was written by the
 // oracle. Assumes nothing.
+#![tactic(auto)]
+
 ghost use Rattle.std.specs.Prelude.{◌≡◌, ◌+◌, ◌*◌, ◌<◌, ◌≤◌, length};
 ghost use Rattle.laws.specs.Range.{some};
 ghost use Rattle.rebuild.specs.Compared.{table_seed, differs_at, columns_differ};
 
 use refusals::{Counted, Filled};
 use tables::BaseGraph;
+use std::io;
 
 fn table_seed(rate: usize, n_b: usize) -> u64
     requires { (rate ≤ 5) × (n_b ≤ 60) }
@@ -75,66 +78,66 @@ fn columns_differ(
     count
 }
 
-fn print_cycles(g: BaseGraph, rows: &[u8], shifts: &[u16], z: usize, after: u8) {
+fn print_cycles(rt: &impl Print, g: BaseGraph, rows: &[u8], shifts: &[u16], z: usize, after: u8) -> io::Result<()> {
     match graph::four_cycles(g.shape.n_b, g.shape.k_b, rows, shifts, z) {
-        Counted::Count(n) => text::print_number(n, after),
-        Counted::Refused(r) => text::print_refusal(r, after),
+        Counted::Count(n) => text::print_number(rt, n, after),
+        Counted::Refused(r) => text::print_refusal(rt, r, after),
     }
 }
 
-fn print_built(g: BaseGraph, rows: &[u8], shifts: &[u16])
+fn print_built(rt: &impl Print, g: BaseGraph, rows: &[u8], shifts: &[u16]) -> io::Result<()>
     requires { (length rows.now ≡ 3 * g.shape.k_b) × (length shifts.now ≡ 3 * g.shape.k_b) × (g.shape.k_b ≤ 51) }
 {
-    text::print_bytes(b"differ ");
+    text::print_bytes(rt, b"differ ")?;
     let table_rows = g.rows;
     let table_shifts = g.shifts;
-    text::print_number(
-        columns_differ(rows, shifts, &table_rows, &table_shifts, g.shape.k_b),
+    text::print_number(rt, columns_differ(rows, shifts, &table_rows, &table_shifts, g.shape.k_b),
         b' ',
-    );
-    text::print_bytes(b"cycles ");
-    print_cycles(g, rows, shifts, 2, b' ');
-    print_cycles(g, rows, shifts, 8, b' ');
-    print_cycles(g, rows, shifts, 32, b' ');
-    print_cycles(g, rows, shifts, 128, b' ');
-    print_cycles(g, rows, shifts, 324, b'\n');
+    )?;
+    text::print_bytes(rt, b"cycles ")?;
+    print_cycles(rt, g, rows, shifts, 2, b' ')?;
+    print_cycles(rt, g, rows, shifts, 8, b' ')?;
+    print_cycles(rt, g, rows, shifts, 32, b' ')?;
+    print_cycles(rt, g, rows, shifts, 128, b' ')?;
+    print_cycles(rt, g, rows, shifts, 324, b'\n')
 }
 
 // Builds a graph of the shape of g, in memory of the right lengths.
-fn print_rebuilt(g: BaseGraph, percent: usize, seed: u64, rows: &mut [u8], shifts: &mut [u16])
+fn print_rebuilt(rt: &impl Print, g: BaseGraph, percent: usize, seed: u64, rows: &mut [u8], shifts: &mut [u16]) -> io::Result<()>
     requires { (length rows.old ≡ 3 * g.shape.k_b) × (length shifts.old ≡ 3 * g.shape.k_b) × (g.shape.k_b ≤ 51) }
 {
     let built = graph::build(g.shape.n_b, percent, seed, rows, shifts);
     match built {
-        Filled::Done => print_built(g, rows, shifts),
-        Filled::Refused(r) => text::print_refusal(r, b'\n'),
+        Filled::Done => print_built(rt, g, rows, shifts),
+        Filled::Refused(r) => text::print_refusal(rt, r, b'\n'),
     }
 }
 
 // The largest graphs have 51 information columns.
-fn print_seeded(g: BaseGraph, percent: usize, seed: u64)
+fn print_seeded(rt: &impl Print, g: BaseGraph, percent: usize, seed: u64) -> io::Result<()>
     requires { g.shape.k_b ≤ 51 }
 {
     let n = 3 * g.shape.k_b;
     let mut rows: [u8; 153] = [0; 153];
     let mut shifts: [u16; 153] = [0; 153];
-    print_rebuilt(g, percent, seed, &mut rows[..n], &mut shifts[..n]);
+    print_rebuilt(rt, g, percent, seed, &mut rows[..n], &mut shifts[..n])
 }
 
 // The graph of a rate and a family, at 85, 75, 65, 55, 45 or 35 percent.
-fn print_graph(rate: usize, family: usize)
+fn print_graph(rt: &impl Print, rate: usize, family: usize) -> io::Result<()>
     requires { rate ≤ 5 }
 {
     let g = tables::graph_of(rate, family);
-    text::print_number(family, b' ');
-    text::print_number(rate, b' ');
-    print_seeded(g, 85 - 10 * rate, table_seed(rate, g.shape.n_b));
+    text::print_number(rt, family, b' ')?;
+    text::print_number(rt, rate, b' ')?;
+    print_seeded(rt, g, 85 - 10 * rate, table_seed(rate, g.shape.n_b))
 }
 
-fn main() {
+fn main(rt: HostRuntime) -> io::Result<()> {
     let mut i = 0;
     while i < 18 {
-        print_graph(i % 6, i / 6);
+        print_graph(&rt, i % 6, i / 6)?;
         i += 1;
     }
+    Ok(())
 }

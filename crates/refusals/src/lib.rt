@@ -1,8 +1,10 @@
 // The refusals of every call: 01, "Who can cause a refusal". Each case holds what its pair needs. Assumes nothing.
+#![tactic(auto)]
+
 ghost use Rattle.std.specs.Prelude.{◌≡◌};
 ghost use Rattle.refusals.specs.Told.{numbers_of};
 
-#[derive(Drop)]
+#[derive(Clone, Copy)]
 pub enum Refusal {
     // 1: no family serves this n_tx
     NoFamily(usize),
@@ -29,21 +31,21 @@ pub enum Refusal {
 }
 
 // What a call that counts answers.
-#[derive(Drop)]
+#[derive(Clone, Copy)]
 pub enum Counted {
     Count(usize),
     Refused(Refusal),
 }
 
 // What a call that fills its outputs answers.
-#[derive(Drop)]
+#[derive(Clone, Copy)]
 pub enum Filled {
     Done,
     Refused(Refusal),
 }
 
 // A refusal's number and its pair.
-#[derive(Drop)]
+#[derive(Clone, Copy)]
 pub struct Numbers {
     pub number: usize,
     pub first: usize,

@@ -2,9 +2,10 @@
 use ldpc::{Code, EdgeAt};
 use refusals::Counted;
 use text::{print_summed, sum_step};
+use std::io;
 
 // No code has 200 base edges: all are asked for, and some past the last.
-pub fn print_edges(c: Code) {
+pub fn print_edges(rt: &impl Print, c: Code) -> io::Result<()> {
     let mut h = 0;
     let mut count = 0;
     let mut b = 0;
@@ -16,21 +17,22 @@ pub fn print_edges(c: Code) {
         }
         b += 1;
     }
-    print_summed(b"edges ", h, count);
+    print_summed(rt, b"edges ", h, count)
 }
 
 // The first n members.
-fn print_places(members: &[u32], n: usize) {
+fn print_places(rt: &impl Print, members: &[u32], n: usize) -> io::Result<()> {
     let end = numbers::lesser(n, members.len());
     let mut i = 0;
     while i < end {
-        text::print_number(numbers::wide32(members[i]), b' ');
+        text::print_number(rt, numbers::wide32(members[i]), b' ')?;
         i += 1;
     }
+    Ok(())
 }
 
 // The checksum of the first n members.
-fn print_sum(members: &[u32], n: usize) {
+fn print_sum(rt: &impl Print, members: &[u32], n: usize) -> io::Result<()> {
     let end = numbers::lesser(n, members.len());
     let mut h = 0;
     let mut i = 0;
@@ -38,37 +40,38 @@ fn print_sum(members: &[u32], n: usize) {
         h = sum_step(h, numbers::wide32(members[i]));
         i += 1;
     }
-    text::print_number(h, b' ');
+    text::print_number(rt, h, b' ')
 }
 
 // One check: a check has fewer than 64 members.
-fn print_check(c: Code, check: usize, full: bool) {
+fn print_check(rt: &impl Print, c: Code, check: usize, full: bool) -> io::Result<()> {
     let mut members: [u32; 64] = [0; 64];
     let counted = coder::check_members(c, check, &mut members);
     match counted {
         Counted::Count(n) => {
             if full {
-                text::print_bytes(b"list ");
-                text::print_number(check, b' ');
-                print_places(&members, n);
+                text::print_bytes(rt, b"list ")?;
+                text::print_number(rt, check, b' ')?;
+                print_places(rt, &members, n)?;
             } else {
-                text::print_bytes(b"sum ");
-                text::print_number(check, b' ');
-                print_sum(&members, n);
+                text::print_bytes(rt, b"sum ")?;
+                text::print_number(rt, check, b' ')?;
+                print_sum(rt, &members, n)?;
             }
-            text::print_bytes(b"count ");
-            text::print_number(n, b'\n');
+            text::print_bytes(rt, b"count ")?;
+            text::print_number(rt, n, b'\n')
         }
-        Counted::Refused(r) => text::print_refusal(r, b'\n'),
+        Counted::Refused(r) => text::print_refusal(rt, r, b'\n'),
     }
 }
 
-pub fn print_checks(c: Code) {
+pub fn print_checks(rt: &impl Print, c: Code) -> io::Result<()> {
     let n = c.checks();
     let full = crate::inputs::in_full(n);
     let mut check = 0;
     while check < n {
-        print_check(c, check, full);
+        print_check(rt, c, check, full)?;
         check += 1;
     }
+    Ok(())
 }

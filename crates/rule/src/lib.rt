@@ -1,6 +1,8 @@
 // The check rule of normalised min-sum, one message at a time: 01, "Iteration". Every choice between two values is a minimum,
 // a maximum or a select, so that no branch hangs on the readings. `with` requires an ordered record, which `new` gives and
 // `with` keeps. Assumes nothing.
+#![tactic(auto)]
+
 ghost use Rattle.std.specs.Prelude.{◌≡◌, false, cond};
 ghost use Rattle.std.specs.Bool.{xor};
 ghost use Rattle.std.specs.Float.{binary32, inf};
@@ -10,7 +12,7 @@ ghost use Rattle.rule.specs.Rule.{Ordered, started, taken, answered};
 
 // What the messages to a check come to: the smallest magnitude, the second smallest, the place of the smallest, and whether
 // an odd number of them are negative.
-#[derive(Drop)]
+#[derive(Clone, Copy)]
 pub struct Least {
     pub min1: f32,
     pub min2: f32,

@@ -1,6 +1,8 @@
 // A run of iterations: until the decisions meet every check, or the grant is spent; and the unbroken decode, which is such a run
 // from a fresh start. 01, "Grant", "Unbroken decode".
 // What these functions require, their callers in this and the decoder's crate meet.
+#![tactic(auto)]
+
 ghost use Rattle.std.specs.Prelude.{◌≡◌, false, ◌+◌, ◌≤◌, length};
 ghost use Rattle.sizes.specs.Lent.{Ready, Rows, Edges, Sorted};
 ghost use Rattle.runs.specs.Runs.{alpha, unbroken, reach_of, Reached};
@@ -9,7 +11,7 @@ use ldpc::Code;
 use sizes::Sizes;
 
 // How far a decode has got: the iterations done, and whether the last of them converged.
-#[derive(Drop)]
+#[derive(Clone, Copy)]
 pub struct Reach {
     pub iterations: u16,
     pub converged: bool,

@@ -1,5 +1,7 @@
 // Segments of the work memory: runs of numbers that are copied, added, subtracted. A column is turned in two runs, so that no bit
 // asks for a remainder. What these functions require, their callers in totals and channel meet.
+#![tactic(auto)]
+
 ghost use Rattle.std.specs.Prelude.{◌+◌, ◌-◌, ◌%◌, ◌<◌, ◌≤◌, length};
 ghost use Rattle.std.specs.Float.Ieee.{add, sub};
 ghost use Rattle.std.specs.Float.{binary32};

@@ -6,7 +6,7 @@ ghost use Rattle.shifts.specs.Biases.{Weights, bias_cost, Held, Follows};
 use crate::generator::{draw_of, next_state};
 
 // A shift, and the generator's state after the draws for it.
-#[derive(Drop)]
+#[derive(Clone, Copy)]
 pub struct Next {
     pub shift: u16,
     pub state: u64,

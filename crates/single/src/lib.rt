@@ -1,5 +1,7 @@
 // The checks of a base row one at a time, for the lifts below 4. What these functions require, their callers in this crate and
 // checks meet.
+#![tactic(auto)]
+
 ghost use Rattle.std.specs.Prelude.{◌≡◌, cond, ◌+◌, ◌/◌, ◌<◌, ◌≤◌, length};
 ghost use Rattle.std.specs.Float.{nan};
 ghost use Rattle.laws.specs.Written.{Written};

@@ -1,4 +1,6 @@
 // The sizes that every pass goes by, taken once a call. `sizes_of` requires a code that Choice gives; its callers meet that.
+#![tactic(auto)]
+
 ghost use Rattle.std.specs.Prelude.{◌≡◌, true};
 ghost use Rattle.ldpc.specs.Choice.{made};
 ghost use Rattle.sizes.specs.Lent.{sizes_of};
@@ -6,7 +8,7 @@ ghost use Rattle.sizes.specs.Lent.{sizes_of};
 use ldpc::Code;
 
 // Base rows, information columns (k_b), base edges, the bits of a lifted word (N) and the slots of its edges (E).
-#[derive(Drop)]
+#[derive(Clone, Copy)]
 pub struct Sizes {
     pub rows: usize,
     pub info: usize,

@@ -1,4 +1,6 @@
 // Where a slot stands. `slot` requires an offset of a lift, which its callers in the crates of the passes meet.
+#![tactic(auto)]
+
 ghost use Rattle.std.specs.Prelude.{◌≡◌, ◌+◌, ◌*◌, ◌<◌, ◌≤◌};
 
 // The slot of base edge b at offset t, and the bit of column b at offset t.

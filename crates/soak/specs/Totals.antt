@@ -1,6 +1,6 @@
 -- How the totals are added up. Assumes nothing.
 use Rattle.std.specs.Prelude.{ℕ, ◌+◌, min, get_or, set, replicate}
-use Rattle.soak.specs.declared.totals.Totals.{Totals}
+use Rattle.soak.specs.declared.tally.Totals.{Totals}
 
 -- a sum that stays at a million million
 abbrev pub joined : ℕ → ℕ → ℕ

@@ -8,7 +8,7 @@ use ldpc::Code;
 use refusals::Numbers;
 
 // A grant of g, or a read into an output of `room` bytes, lent so many numbers; the record may be changed.
-#[derive(Drop)]
+#[derive(Clone, Copy)]
 pub struct Call {
     pub read: bool,
     pub g: u16,
@@ -49,7 +49,7 @@ fn room_of(draw: usize, n_tx: usize) -> usize
 {
     match draw % 16 {
         0 => n_tx / 2,
-        1 => crate::totals::sum_of(n_tx, 1),
+        1 => crate::tally::sum_of(n_tx, 1),
         _ => n_tx,
     }
 }

@@ -4,20 +4,23 @@
 // compiled code, which no proof covers.
 // What is drawn, compared and counted has its contract in the modules. The functions here drive the calls through a list and
 // answer what was counted; they are private and have no `ensures`. Assumes nothing.
+#![tactic(auto)]
+
 mod calls;
 mod compare;
 mod inputs;
-mod totals;
+mod tally;
 
 ghost use Rattle.std.specs.Prelude.{◌<◌};
 
 use calls::Call;
 use decoder::{Decode, DecodeResult, Granted, ReadOut};
 use ldpc::{Choice, Code};
-use totals::Totals;
+use tally::Totals;
+use std::io;
 
 // A list under way: the record last returned, the sum of the accepted grants, the generator's state, and the totals.
-#[derive(Drop)]
+#[derive(Clone, Copy)]
 struct Run {
     decode: Decode,
     sum: usize,
@@ -52,9 +55,9 @@ impl Run {
     fn granted(self, d: Decode, g: u16) -> Run {
         Run {
             decode: d,
-            sum: totals::sum_of(self.sum, numbers::wide16(g)),
+            sum: tally::sum_of(self.sum, numbers::wide16(g)),
             state: self.state,
-            totals: self.totals.with(totals::GRANTS, 1),
+            totals: self.totals.with(tally::GRANTS, 1),
         }
     }
 }
@@ -78,26 +81,26 @@ fn differences(
     let told = compare::results_apart(r, u);
     let written = compare::bytes_apart(out, word);
     let left = compare::numbers_apart(work, other);
-    totals::sum_of(told, totals::sum_of(written, left))
+    tally::sum_of(told, tally::sum_of(written, left))
 }
 
 fn accepted_read(run: Run, r: DecodeResult, out: &[u8], rx: &[f32], work: &[f32]) -> Run {
     let mut word: [u8; 1001] = [9; 1001];
     let mut other: [f32; 8000] = [7.5; 8000];
     let c = run.decode.code;
-    let limit = totals::limit_of(run.sum);
+    let limit = tally::limit_of(run.sum);
     let apart = differences(c, limit, r, out, rx, work, &mut word, &mut other);
-    run.with(totals::DIFFERENCES, apart)
-        .with(totals::READS, 1)
-        .with(totals::CONVERGED, totals::one_if(r.converged))
-        .with(totals::CLEAN, totals::one_if(r.clean))
+    run.with(tally::DIFFERENCES, apart)
+        .with(tally::READS, 1)
+        .with(tally::CONVERGED, tally::one_if(r.converged))
+        .with(tally::CLEAN, tally::one_if(r.clean))
 }
 
 // A refused read leaves its output as it was.
 fn refused_read(run: Run, out: &[u8]) -> Run {
     let blank: [u8; 1001] = [9; 1001];
-    run.with(totals::REFUSALS, 1)
-        .with(totals::DIFFERENCES, compare::bytes_apart(out, &blank))
+    run.with(tally::REFUSALS, 1)
+        .with(tally::DIFFERENCES, compare::bytes_apart(out, &blank))
 }
 
 fn read_call(run: Run, call: Call, rx: &[f32], work: &[f32]) -> Run {
@@ -108,7 +111,7 @@ fn read_call(run: Run, call: Call, rx: &[f32], work: &[f32]) -> Run {
     let answer = d.read(&work[..lent], &mut out[..room]);
     let wanted = calls::read_refusal(run.decode, call);
     let apart = compare::refusals_apart(calls::refused_read(answer), wanted);
-    let next = run.with(totals::DIFFERENCES, apart);
+    let next = run.with(tally::DIFFERENCES, apart);
     match answer {
         ReadOut::Result(r) => accepted_read(next, r, &out, rx, work),
         ReadOut::Refused(_) => refused_read(next, &out),
@@ -122,10 +125,10 @@ fn grant_call(run: Run, call: Call, rx: &[f32], work: &mut [f32]) -> Run {
     let answer = d.grant(call.g, &mut work[..lent]);
     let wanted = calls::grant_refusal(run.decode, call);
     let apart = compare::refusals_apart(calls::refused_grant(answer), wanted);
-    let next = run.with(totals::DIFFERENCES, apart);
+    let next = run.with(tally::DIFFERENCES, apart);
     let Granted::Decode(e) = answer else {
         let plain = calls::plain_of(run.decode, work.len());
-        return read_call(next.with(totals::REFUSALS, 1), plain, rx, work);
+        return read_call(next.with(tally::REFUSALS, 1), plain, rx, work);
     };
     next.granted(e, call.g)
 }
@@ -153,7 +156,7 @@ fn some_calls(run: Run, n: usize, rx: &[f32], work: &mut [f32]) -> Run {
 fn soak_list(c: Code, seed: usize, rx: &[f32], work: &mut [f32], totals: Totals) -> Totals {
     let answer = Decode::start(c, rx, work);
     let Granted::Decode(d) = answer else {
-        return totals.with(totals::DIFFERENCES, 1);
+        return totals.with(tally::DIFFERENCES, 1);
     };
     let begun = Run {
         decode: d,
@@ -164,8 +167,8 @@ fn soak_list(c: Code, seed: usize, rx: &[f32], work: &mut [f32], totals: Totals)
     let run = some_calls(begun, 3 + readings::next_state(seed) % 6, rx, work);
     let end = read_call(run, calls::plain_of(run.decode, work.len()), rx, work);
     end.totals
-        .with(totals::LISTS, 1)
-        .with(totals::ITERATIONS, numbers::wide16(end.decode.iterations))
+        .with(tally::LISTS, 1)
+        .with(tally::ITERATIONS, numbers::wide16(end.decode.iterations))
 }
 
 // A list of a code, if Choice makes it.
@@ -234,20 +237,21 @@ fn soak() -> Totals {
     t
 }
 
-fn print_count(name: &[u8], n: usize, after: u8) {
-    text::print_bytes(name);
-    text::print_number(n, after);
+fn print_count(rt: &impl Print, name: &[u8], n: usize, after: u8) -> io::Result<()> {
+    text::print_bytes(rt, name)?;
+    text::print_number(rt, n, after)
 }
 
-fn main() {
+fn main(rt: HostRuntime) -> io::Result<()> {
     let t = soak();
     let counts = t.counts;
-    print_count(b"lists ", counts[totals::LISTS], b' ');
-    print_count(b"iterations ", counts[totals::ITERATIONS], b' ');
-    print_count(b"grants ", counts[totals::GRANTS], b' ');
-    print_count(b"refusals ", counts[totals::REFUSALS], b' ');
-    print_count(b"reads ", counts[totals::READS], b' ');
-    print_count(b"converged ", counts[totals::CONVERGED], b' ');
-    print_count(b"clean ", counts[totals::CLEAN], b' ');
-    print_count(b"differences ", counts[totals::DIFFERENCES], b'\n');
+    print_count(&rt, b"lists ", counts[tally::LISTS], b' ')?;
+    print_count(&rt, b"iterations ", counts[tally::ITERATIONS], b' ')?;
+    print_count(&rt, b"grants ", counts[tally::GRANTS], b' ')?;
+    print_count(&rt, b"refusals ", counts[tally::REFUSALS], b' ')?;
+    print_count(&rt, b"reads ", counts[tally::READS], b' ')?;
+    print_count(&rt, b"converged ", counts[tally::CONVERGED], b' ')?;
+    print_count(&rt, b"clean ", counts[tally::CLEAN], b' ')?;
+    print_count(&rt, b"differences ", counts[tally::DIFFERENCES], b'\n')?;
+    Ok(())
 }

@@ -1,6 +1,8 @@
 // The parity part of an encoding: 01, "Encoding". It first holds the information sums S_i, then row by row the parity
 // columns: a row of sums is taken out as its parity row is put in, and gives the next parity row. What `staircase` requires,
 // its caller `encode` in coder meets.
+#![tactic(auto)]
+
 ghost use Rattle.std.specs.Prelude.{◌≡◌, true, ◌≤◌, length};
 ghost use Rattle.bits.specs.Sums.{Bits};
 ghost use Rattle.bits.specs.Rows.{Holds};

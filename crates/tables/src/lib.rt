@@ -1,5 +1,7 @@
 // The 18 base graphs of tables.rs: the shape of a graph, and a whole graph by value. A rate above 5 counts as 5 and a
 // family above 2 as 2 (0 large, 1 small, 2 tiny), so every call answers. Assumes nothing.
+#![tactic(auto)]
+
 mod flat;
 
 ghost use Rattle.std.specs.Prelude.{◌≡◌, ◌<◌};
@@ -8,7 +10,7 @@ ghost use Rattle.tables.specs.Graph.{graph_number, first_column, shape_of, graph
 use flat::{ROWS, SHIFTS};
 
 // The base columns, the information columns and the base rows of a graph.
-#[derive(Drop)]
+#[derive(Clone, Copy)]
 pub struct Shape {
     pub n_b: usize,
     pub k_b: usize,
@@ -16,7 +18,7 @@ pub struct Shape {
 }
 
 // A graph: entry 3 * j + i is pair i of information column j; 0 past the last column.
-#[derive(Drop)]
+#[derive(Clone, Copy)]
 pub struct BaseGraph {
     pub shape: Shape,
     pub rows: [u8; 153],

@@ -1,5 +1,7 @@
 // The bit pass of one column: its totals, and what it sends to its checks. What these functions require, their callers in this crate
 // and by_columns meet.
+#![tactic(auto)]
+
 mod bit;
 mod column;
 mod edge;

@@ -1,5 +1,7 @@
 // The word that a read writes: the decisions in transmitted order, and whether they are a codeword. 01, "Read".
 // What these functions require, their callers in this and the decoder's crate meet.
+#![tactic(auto)]
+
 ghost use Rattle.std.specs.Prelude.{◌≡◌, true, ◌&&◌, ◌+◌, ◌<◌, ◌≤◌, eqb, length};
 ghost use Rattle.laws.specs.Written.{Written};
 ghost use Rattle.laws.specs.Floats.{negative};

@@ -1,7 +1,7 @@
 -- `with` meets its contract. Assumes nothing.
 use borrow.Author.Rules.{rules}
-use Rattle.soak.proofs.totals.Totals.with.Statement.{statement}
-use Rattle.soak.proofs.totals.Totals.with.Tie as tie
+use Rattle.soak.proofs.tally.Totals.with.Statement.{statement}
+use Rattle.soak.proofs.tally.Totals.with.Tie as tie
 
 mul-sum-of : tie.Need-overflow-mul-sum-of
 mul-sum-of c = search rules

@@ -19,7 +19,7 @@ pub const CLEAN: usize = 6;
 
 pub const DIFFERENCES: usize = 7;
 
-#[derive(Drop)]
+#[derive(Clone, Copy)]
 pub struct Totals {
     pub counts: [usize; 8],
 }
