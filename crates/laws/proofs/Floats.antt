@@ -41,6 +41,8 @@ value_bits f (fin t m e) s a c C v =
     div_same (m * up e * 2 ^ low f) (down e) (a * 2 ^ low f) c (down_pos e) C
     (mul_right_comm (m * up e) (2 ^ low f) c ∙ ap (λ z. z * 2 ^ low f) v.1 ∙ mul_right_comm a (down e) (2 ^ low f)) in
     rw (v.0, n)
+value_bits f nan s a c C v = elim v [ ]
+value_bits f (inf _) s a c C v = elim v [ ]
 
 one_value : (f : Format) (x y : Float) (s : Bool) (a c : ℕ) → 0 < c → T (fits f x) → T (fits f y)
     → HasValue x s a c → HasValue y s a c → x ≡ y
@@ -277,6 +279,7 @@ toward_number : (s : Bool) (x : Float) → Toward s x → is_nan x ≡ false
 unfolding is_nan
 toward_number s (inf t) h = refl
 toward_number s (fin t m e) h = refl
+toward_number s nan h = elim h [ ]
 
 not_beyond : (s : Bool) (x : Float) → Toward s x → beyond s x ≡ false
 not_beyond s (inf t) h = rw (h, beq_self s)
@@ -285,6 +288,7 @@ not_beyond s (fin t m e) h = by (dec_lt 0 m)
     by : Dec (0 < m) → beyond s (fin t m e) ≡ false
     by (yes l) = rw (h l, beq_self s)
     by (no l) = rw (le-ltb 0 m (omega arith)) (and-false (unlike s t))
+not_beyond s nan h = elim h [ ]
 
 toward_leans : (s : Bool) (x : Float) → Toward s x → Leans s x
 toward_leans s x h = record { number = toward_number s x h; side = beyond_is s x ∙ not_beyond s x h }
@@ -296,6 +300,8 @@ plain_toward x P = toward false x P.number P.above
 -- ---- a rounded fraction is on the side of its sign
 value_toward : (x : Float) (s : Bool) (a c : ℕ) → HasValue x s a c → Toward s x
 value_toward (fin t m e) s a c v = λ l. v.0
+value_toward nan s a c v = elim v [ ]
+value_toward (inf _) s a c v = elim v [ ]
 
 units_toward : (f : Format) (s : Bool) (q k : ℕ) → Toward s (units f s q k)
 unfolding units
@@ -346,6 +352,7 @@ product_toward f s m e (fin t n d) M h =
     rw (mul_opened f s m e t n d)
     (round_toward f s (unlike s t) (m * up e * (n * up d)) (down e * down d) (mul-pos (down_pos e) (down_pos d))
     (λ l. rw (h (first_pos n (up d) (second_pos (m * up e) (n * up d) l))) (unturned s)))
+product_toward f s m e nan M h = elim h [ ]
 
 pub product_leans : (factor x : Float) (s : Bool) → Factor factor → Plain x → Leans s (mul binary32 (mul binary32 factor (signed s)) x)
 unfolding lt
@@ -426,6 +433,9 @@ sum_toward f r (inf s) (inf t) p q = unfold add in rw (p, q, beq_self r)
 sum_toward f r (inf s) (fin t n d) p q = unfold add in p
 sum_toward f r (fin s m e) (inf t) p q = unfold add in q
 sum_toward f r (fin s m e) (fin t n d) p q = finite_toward f r s m e t n d p q
+sum_toward f r nan y p q = elim p [ ]
+sum_toward f r (inf s) nan p q = elim q [ ]
+sum_toward f r (fin s m e) nan p q = elim q [ ]
 
 sum_nonzero : (f : Format) (r : Bool) (x y : Float) → T (fits f x) → T (nonzero x) → Toward r x → Toward r y → T (nonzero (add f x y))
 unfolding magnitude
@@ -433,6 +443,9 @@ sum_nonzero f r (inf s) (inf t) h z p q = unfold add in rw (p, q, beq_self r) tt
 sum_nonzero f r (inf s) (fin t n d) h z p q = unfold add in tt
 sum_nonzero f r (fin s m e) (inf t) h z p q = unfold add in tt
 sum_nonzero f r (fin s m e) (fin t n d) h z p q = finite_nonzero f r s m e t n d p q h (ltb→lt 0 m z)
+sum_nonzero f r nan y h z p q = elim z [ ]
+sum_nonzero f r (inf s) nan h z p q = elim q [ ]
+sum_nonzero f r (fin s m e) nan h z p q = elim q [ ]
 
 -- below zero: on the side of the negative numbers, and no zero
 below_toward : (x : Float) → beyond false x ≡ true → Toward true x × T (nonzero x)
@@ -447,6 +460,7 @@ toward_below : (x : Float) → Toward true x → T (nonzero x) → beyond false 
 unfolding magnitude
 toward_below (inf t) p z = rw p
 toward_below (fin t m e) p z = rw (p (ltb→lt 0 m z)) (is_true (ltb 0 m) z)
+toward_below nan p z = elim p [ ]
 
 sided_toward : (s : Bool) (x : Float) → Sided s x → Toward s x × (T s → T (nonzero x))
 unfolding negative

@@ -11,8 +11,7 @@ use Rattle.laws.proofs.Range.{eq_at}
 use Rattle.tables.specs.declared.Shape.{Shape}
 use Rattle.tables.specs.Graph.{base_columns, info_columns, base_rows, shape_of}
 use Rattle.tables.proofs.Sizes.{sizes}
-use Rattle.tables.proofs.shape_at.Statement.{statement}
-use Rattle.tables.proofs.shape_at.Tie as tie
+use Rattle.tables.proofs.shape_at.Goals as goal
 
 abbrev table : List ℕ
 table = 51 ∷ 45 ∷ 39 ∷ 33 ∷ 27 ∷ 21 ∷ 17 ∷ 15 ∷ 13 ∷ 11 ∷ 9 ∷ 7 ∷ 7 ∷ 7 ∷ 6 ∷ 5 ∷ 4 ∷ 3 ∷ []
@@ -21,28 +20,13 @@ info : (g : ℕ) → g < 18 → get_or table g 0 ≡ info_columns g
 unfolding every information_columns base_columns info_columns
 info g h = eq_at (λ g. get_or table g 0) info_columns 18 tt g h
 
-mul-n-b : tie.Need-overflow-mul-n-b
-mul-n-b c = search rules
-
-array-read-n-b : tie.Need-array-read-n-b
-array-read-n-b c = search rules
-
-mul-k-b : tie.Need-overflow-mul-k-b
-mul-k-b c = search rules
-
-array-read-k-b : tie.Need-array-read-k-b
-array-read-k-b c = search rules
-
-sub-t6 : tie.Need-overflow-sub-t6
-unfolding base_columns
-sub-t6 c = omega (arith, info c.args.g c.requires, (sizes c.args.g c.requires).columns)
-
 shape_with : ℕ → ℕ → Shape
 shape_with g k = record { n_b = base_columns g; k_b = k; m_b = base_columns g - k }
 
-returns : tie.Need-returns
+pub overflow_sub-result : goal.overflow_sub-result
+unfolding base_columns
+overflow_sub-result c = omega (arith, info c.args.g c.requires, (sizes c.args.g c.requires).columns)
+
+pub returns : goal.returns
 unfolding base_columns base_rows shape_of shape_with
 returns c = ap (shape_with c.args.g) (info c.args.g c.requires)
-
-pub shape-at-spec : {M : Type 1} → statement M
-shape-at-spec = tie.close (tie.spec mul-n-b array-read-n-b mul-k-b array-read-k-b sub-t6 returns)

@@ -7,21 +7,11 @@ use Rattle.laws.specs.Range.{every, sum}
 use Rattle.laws.specs.Columns.{information_columns}
 use Rattle.laws.proofs.Range.{eq_at}
 use Rattle.tables.specs.Graph.{base_columns, info_columns, first_column}
-use Rattle.tables.proofs.first_column.Statement.{statement}
-use Rattle.tables.proofs.first_column.Tie as tie
+use Rattle.tables.proofs.first_column.Goals as goal
 
 abbrev table : List ℕ
 table = 0 ∷ 51 ∷ 96 ∷ 135 ∷ 168 ∷ 195 ∷ 216 ∷ 233 ∷ 248 ∷ 261 ∷ 272 ∷ 281 ∷ 288 ∷ 295 ∷ 302 ∷ 308 ∷ 313 ∷ 317 ∷ []
 
-mul-result : tie.Need-overflow-mul-result
-mul-result c = search rules
-
-array-read-result : tie.Need-array-read-result
-array-read-result c = search rules
-
-returns : tie.Need-returns
+pub returns : goal.returns
 unfolding every sum information_columns base_columns info_columns first_column
 returns c = eq_at (λ g. get_or table g 0) first_column 18 tt c.args.g c.requires
-
-pub first-column-spec : {M : Type 1} → statement M
-first-column-spec = tie.close (tie.spec mul-result array-read-result returns)
