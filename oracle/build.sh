@@ -22,11 +22,13 @@ library() {
     rustc --edition 2021 -O --crate-type rlib --crate-name "$library_name" "$@" -o "$room/lib$library_name.rlib" "$library_root"
 }
 
-# published FROM: lcr_core, the Rust as it stands. The folder `ecc` is there for the paths in lcr_core.rs.
+# published FROM: lcr_core, the Rust as it stands. A copy, since `rt ci` refuses links anywhere in the checkout. The
+# folder `ecc` is there for the paths in lcr_core.rs.
 published() {
     mkdir -p "$room/ecc"
-    rm -f "$room/lcr"
-    ln -s "$(cd "$1" && pwd)" "$room/lcr"
+    rm -rf "$room/lcr"
+    cp -R "$1" "$room/lcr"
+    chmod -R u+w "$room/lcr"
     cp oracle/lcr_core.rs "$room/"
     library lcr_core "$room/lcr_core.rs"
 }

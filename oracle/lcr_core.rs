@@ -1,5 +1,5 @@
-//! The root of a library around the Rust as published. `lcr` is a link to its folder, which `compare` makes beside a copy
-//! of this file: the files are compiled where they stand, unchanged.
+//! The root of a library around the Rust as published. `lcr` is a copy of its folder, which build.sh makes beside a copy
+//! of this file: the files are compiled unchanged.
 #![allow(dead_code)]
 extern crate alloc;
 
