@@ -40,7 +40,13 @@ pub fn print_count(rt: &impl Print, counted: Counted, after: u8) -> io::Result<(
     }
 }
 
-fn print_cycles(rt: &impl Print, n_b: usize, k_b: usize, rows: &[u8], shifts: &[u16]) -> io::Result<()> {
+fn print_cycles(
+    rt: &impl Print,
+    n_b: usize,
+    k_b: usize,
+    rows: &[u8],
+    shifts: &[u16],
+) -> io::Result<()> {
     print_count(rt, graph::four_cycles(n_b, k_b, rows, shifts, 1), b' ')?;
     print_count(rt, graph::four_cycles(n_b, k_b, rows, shifts, 2), b' ')?;
     print_count(rt, graph::four_cycles(n_b, k_b, rows, shifts, 5), b' ')?;
@@ -70,14 +76,28 @@ fn print_built(
 }
 
 // A graph with k_b information columns; 61 are the most.
-fn print_graph(rt: &impl Print, n_b: usize, percent: usize, k_b: usize, seed: u64) -> io::Result<()> {
+fn print_graph(
+    rt: &impl Print,
+    n_b: usize,
+    percent: usize,
+    k_b: usize,
+    seed: u64,
+) -> io::Result<()> {
     if 61 < k_b {
         return Ok(());
     }
     let n = 3 * k_b;
     let mut rows: [u8; 183] = [0; 183];
     let mut shifts: [u16; 183] = [0; 183];
-    print_built(rt, n_b, percent, k_b, seed, &mut rows[..n], &mut shifts[..n])
+    print_built(
+        rt,
+        n_b,
+        percent,
+        k_b,
+        seed,
+        &mut rows[..n],
+        &mut shifts[..n],
+    )
 }
 
 fn print_shape(rt: &impl Print, n_b: usize, percent: usize, seed: u64) -> io::Result<()> {

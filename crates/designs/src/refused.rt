@@ -56,7 +56,10 @@ fn print_shifts(rt: &impl Print, n: usize, room: usize) -> io::Result<()>
     let mut shifts: [u16; 7] = [0; 7];
     print_asked(rt, b"shifts ", 5, 2)?;
     print_lengths(rt, n, room)?;
-    print_filled(rt, graph::assign_shifts(5, 2, &rows[..n], 1, &mut shifts[..room]))
+    print_filled(
+        rt,
+        graph::assign_shifts(5, 2, &rows[..n], 1, &mut shifts[..room]),
+    )
 }
 
 fn print_build(rt: &impl Print, percent: usize, n: usize, room: usize) -> io::Result<()>
@@ -66,7 +69,10 @@ fn print_build(rt: &impl Print, percent: usize, n: usize, room: usize) -> io::Re
     let mut shifts: [u16; 7] = [0; 7];
     print_asked(rt, b"build ", 5, percent)?;
     print_lengths(rt, n, room)?;
-    print_filled(rt, graph::build(5, percent, 1, &mut rows[..n], &mut shifts[..room]))
+    print_filled(
+        rt,
+        graph::build(5, percent, 1, &mut rows[..n], &mut shifts[..room]),
+    )
 }
 
 fn print_cycles(rt: &impl Print, n: usize, m: usize, z: usize) -> io::Result<()>
@@ -82,7 +88,11 @@ fn print_cycles(rt: &impl Print, n: usize, m: usize, z: usize) -> io::Result<()>
     text::print_bytes(rt, b"at ")?;
     text::print_number(rt, z, b':')?;
     text::print_bytes(rt, b" ")?;
-    print_count(rt, graph::four_cycles(5, 2, &rows[..n], &shifts[..m], z), b'\n')
+    print_count(
+        rt,
+        graph::four_cycles(5, 2, &rows[..n], &shifts[..m], z),
+        b'\n',
+    )
 }
 
 pub fn print_refusals(rt: &impl Print) -> io::Result<()> {

@@ -4,8 +4,8 @@
 
 ghost use Rattle.std.specs.Prelude.{◌≡◌, cond, ◌%◌, ◌≤◌, eqb};
 
-use tables::BaseGraph;
 use std::io;
+use tables::BaseGraph;
 
 // What stands after pair b: a line ends with a column's third.
 fn after_pair(b: usize) -> u8

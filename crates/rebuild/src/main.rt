@@ -8,8 +8,8 @@ ghost use Rattle.laws.specs.Range.{some};
 ghost use Rattle.rebuild.specs.Compared.{table_seed, differs_at, columns_differ};
 
 use refusals::{Counted, Filled};
-use tables::BaseGraph;
 use std::io;
+use tables::BaseGraph;
 
 fn table_seed(rate: usize, n_b: usize) -> u64
     requires { (rate ≤ 5) × (n_b ≤ 60) }
@@ -78,7 +78,14 @@ fn columns_differ(
     count
 }
 
-fn print_cycles(rt: &impl Print, g: BaseGraph, rows: &[u8], shifts: &[u16], z: usize, after: u8) -> io::Result<()> {
+fn print_cycles(
+    rt: &impl Print,
+    g: BaseGraph,
+    rows: &[u8],
+    shifts: &[u16],
+    z: usize,
+    after: u8,
+) -> io::Result<()> {
     match graph::four_cycles(g.shape.n_b, g.shape.k_b, rows, shifts, z) {
         Counted::Count(n) => text::print_number(rt, n, after),
         Counted::Refused(r) => text::print_refusal(rt, r, after),
@@ -91,7 +98,9 @@ fn print_built(rt: &impl Print, g: BaseGraph, rows: &[u8], shifts: &[u16]) -> io
     text::print_bytes(rt, b"differ ")?;
     let table_rows = g.rows;
     let table_shifts = g.shifts;
-    text::print_number(rt, columns_differ(rows, shifts, &table_rows, &table_shifts, g.shape.k_b),
+    text::print_number(
+        rt,
+        columns_differ(rows, shifts, &table_rows, &table_shifts, g.shape.k_b),
         b' ',
     )?;
     text::print_bytes(rt, b"cycles ")?;
@@ -103,7 +112,14 @@ fn print_built(rt: &impl Print, g: BaseGraph, rows: &[u8], shifts: &[u16]) -> io
 }
 
 // Builds a graph of the shape of g, in memory of the right lengths.
-fn print_rebuilt(rt: &impl Print, g: BaseGraph, percent: usize, seed: u64, rows: &mut [u8], shifts: &mut [u16]) -> io::Result<()>
+fn print_rebuilt(
+    rt: &impl Print,
+    g: BaseGraph,
+    percent: usize,
+    seed: u64,
+    rows: &mut [u8],
+    shifts: &mut [u16],
+) -> io::Result<()>
     requires { (length rows.old ≡ 3 * g.shape.k_b) × (length shifts.old ≡ 3 * g.shape.k_b) × (g.shape.k_b ≤ 51) }
 {
     let built = graph::build(g.shape.n_b, percent, seed, rows, shifts);

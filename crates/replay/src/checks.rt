@@ -1,8 +1,8 @@
 // The base edges and the check lists of a code.
 use ldpc::{Code, EdgeAt};
 use refusals::Counted;
-use text::{print_summed, sum_step};
 use std::io;
+use text::{print_summed, sum_step};
 
 // No code has 200 base edges: all are asked for, and some past the last.
 pub fn print_edges(rt: &impl Print, c: Code) -> io::Result<()> {

@@ -51,7 +51,13 @@ fn print_changed(rt: &impl Print, c: Code, word: &mut [u8]) -> io::Result<()>
 }
 
 // The encoding of the generator's bits, in memory of the right lengths, its counts, and a refusal.
-fn print_answers(rt: &impl Print, c: Code, seed: usize, info: &mut [u8], word: &mut [u8]) -> io::Result<()>
+fn print_answers(
+    rt: &impl Print,
+    c: Code,
+    seed: usize,
+    info: &mut [u8],
+    word: &mut [u8],
+) -> io::Result<()>
     ensures info_after { info.new ≡ random_bits seed (length info.old) }
     ensures word_after { word.new ≡ changed (encode_written c (random_bits seed (length info.old)) word.old) }
 {

@@ -24,7 +24,7 @@ module _ {rows : List ℕ} {seed n : ℕ} where
       record {
         within = omega arith;
         long = length-set shifts p shift ∙ P.long;
-        placed = rw (add-one, take-suc-set shifts p shift inside, F.Shift-is, P.reached, P.placed);
+        placed = rw (add-one, take-suc-set shifts p shift inside, F.shift_is, P.reached, P.placed);
         reached = rw (add-one, F.state_is, P.reached, P.placed);
       }
 

@@ -1,0 +1,34 @@
+-- `count_members` meets its contract. Assumes nothing.
+use mathlib.Core.Path.{◌≡◌, refl, sym, ap, ◌∙◌}
+use mathlib.Core.Logic.{⊎_elim}
+use Prim.Native.Nat.{◌-◌, ◌≤◌}
+use native.Mathlib.Omega.{arith}
+use borrow.Author.Rules.{rules}
+use Rattle.laws.specs.Range.{count as counted}
+use Rattle.laws.proofs.Collect.{count_more, count_skip}
+use Rattle.check_lists.specs.Members.{is_member}
+use Rattle.check_lists.proofs.Member.{place_told, none_told}
+use Rattle.check_lists.proofs.count_members.Goals as goal
+use Rattle.check_lists.proofs.count_members.Goals.{in-Place, in_default}
+
+pub loop-b-init : goal.loop-b-init
+unfolding counted
+loop-b-init c = (omega arith, omega arith, refl)
+
+pub member_at-m-requires : goal.member_at-m-requires
+member_at-m-requires c = (c.requires.0, c.requires.1, omega (arith, c.requires.2, c.loop-b-test.true))
+
+pub loop-b-preserved : goal.loop-b-preserved
+loop-b-preserved c =
+    let b = c.loop-b.b in
+    let code = c.args.c in
+    let check = c.args.check in
+    elim c.match-m.branch [
+      | in-Place w ↦ omega (arith, count_more (is_member code check) b (place_told code check b (sym w.in-Place.is ∙ c.member_at-m.ensures)).0)
+      | in_default w ↦ omega (arith, count_skip (is_member code check) b (none_told code check b (sym w.in_default.is ∙ c.member_at-m.ensures)))
+    ]
+
+pub returns : goal.returns
+returns c =
+    let e : c.loop-b.b ≡ c.args.n = omega arith in
+    c.loop-b.invariant.2 ∙ ap (counted _) e

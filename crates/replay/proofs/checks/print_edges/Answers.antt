@@ -1,0 +1,14 @@
+-- `print_edges` meets its contract. Assumes nothing.
+use mathlib.Core.Logic.{⊎_elim}
+use Prim.Native.Nat.{◌≤◌, ◌-◌}
+use native.Mathlib.Omega.{arith}
+use borrow.Author.Rules.{rules}
+use Rattle.replay.proofs.checks.print_edges.Goals as goal
+use Rattle.replay.proofs.checks.print_edges.Goals.{in-Edge, in_default}
+
+pub loop-b-preserved : goal.loop-b-preserved
+loop-b-preserved g c =
+    elim c.match-at.branch [
+      | in-Edge w ↦ omega arith
+      | in_default w ↦ omega arith
+    ]

@@ -1,0 +1,30 @@
+-- `gather` meets its contract. The invariant: the first i base edges are gathered. Assumes nothing.
+use mathlib.Core.Path.{◌≡◌, sym, ap, ◌∙◌, subst}
+use mathlib.Core.List.{List}
+use Prim.Native.Nat.{ℕ, ◌+◌, ◌*◌, ◌-◌, ◌≤◌, ◌<◌}
+use native.Mathlib.Omega.{arith}
+use borrow.Author.Rules.{rules}
+use lib.ListN.{length, take, get_or}
+use lib.Seq.{take_all}
+use lib.Ieee.{Float, nan}
+use Rattle.laws.specs.Range.{folded}
+use Rattle.laws.proofs.Folded.{folded_more}
+use Rattle.messages.specs.Iteration.{gathered}
+use Rattle.rule.specs.Rule.{started, taken, Ordered}
+use Rattle.rule.proofs.Ordered.{started_ordered}
+use Rattle.messages.specs.Memory.{reading}
+use Rattle.rule.specs.declared.Least.{Least}
+use Rattle.single.proofs.gather.Given as goal
+
+pub turn : (work : List Float) (from z t : ℕ) (edges : List ℕ) (i s b : ℕ) (l l' : Least) → i < length edges → s ≡ get_or edges i 0 * z + t
+    → b ≡ get_or edges i 0 → l ≡ gathered (reading work from) z t (take i edges) → l' ≡ taken l (get_or work (from + s) nan) b
+    → l' ≡ gathered (reading work from) z t (take (i + 1) edges)
+unfolding gathered
+turn work from z t edges i s b l l' h e k p q =
+    q ∙ rw (p, e, k) (sym (folded_more (λ x b. taken x (get_or work (from + (b * z + t)) nan) b) started edges i h))
+
+abbrev pub invariant-loop-i : goal.invariant-loop-i
+invariant-loop-i l = (l.i ≤ length l.edges) × (l.l ≡ gathered (reading l.work l.from) l.z l.t (take l.i l.edges)) × Ordered l.l
+
+abbrev pub decreases-loop-i : goal.decreases-loop-i
+decreases-loop-i l = length l.edges - l.i

@@ -1,0 +1,41 @@
+-- `row` meets its contract. The invariant: the checks at the offsets below t are done. Assumes nothing.
+use mathlib.Core.List.{List}
+use mathlib.Core.Path.{◌≡◌, refl, sym}
+use Prim.Native.Nat.{ℕ, ◌+◌, ◌*◌, ◌%◌, ◌-◌, ◌≤◌, ◌<◌}
+use native.Mathlib.Omega.{arith}
+use native.Mathlib.Nat.{mod-lt}
+use lib.ListN.{length, get_or}
+use lib.Ieee.{Float, nan}
+use Rattle.laws.proofs.Slots.{slot_is}
+use Rattle.laws.proofs.Written.{Upto, upto_none, upto_run, upto_all, low}
+use Rattle.laws.specs.Written.{Written, At}
+use Rattle.messages.proofs.Local.{answer_agrees}
+use Rattle.slots.specs.Row.{Of, Within}
+use Rattle.messages.specs.Iteration.{answer}
+use Rattle.messages.specs.Memory.{reading}
+use Rattle.single.proofs.row.Goals as goal
+use Rattle.single.proofs.row.Invariants.{DoneUpto, turn}
+
+pub loop-t-init : goal.loop-t-init
+loop-t-init c = (omega arith, upto_none)
+
+pub check_at-requires : goal.check_at-requires
+check_at-requires c = (
+  c.loop-t-test.true,
+  c.requires.1,
+  c.requires.2,
+  λ i h. omega (arith, c.requires.3 i h, c.loop-t.invariant.1.long),
+)
+
+pub loop-t-preserved : goal.loop-t-preserved
+loop-t-preserved c = (
+  omega arith,
+  turn c.args.from c.args.to c.args.z c.args.edges.now c.args.factor c.loop-t.t
+      c.args.work.now c.loop-t.work _ c.loop-t.invariant.1 c.check_at.ensures c.requires.0 c.requires.2,
+)
+
+pub shape_of-work : goal.shape_of-work
+shape_of-work c = c.loop-t.invariant.1.long
+
+pub returns : goal.returns
+returns c = upto_all c.loop-t.invariant.1 (λ s p. omega (arith, mod-lt s c.requires.0))

@@ -1,0 +1,57 @@
+-- `send` meets its contract. The invariant: the slots of the first i base edges are written. Assumes nothing.
+use mathlib.Core.List.{List}
+use mathlib.Core.Path.{◌≡◌, sym, ap, ◌∙◌, subst}
+use mathlib.Core.Bool.{cond}
+use Prim.Native.Nat.{ℕ, ◌+◌, ◌*◌, ◌/◌, ◌%◌, ◌-◌, ◌≤◌, ◌<◌}
+use native.Mathlib.Decide.{ℕ_discrete}
+use native.Mathlib.Omega.{arith}
+use borrow.Author.Rules.{rules}
+use lib.Ieee.{Float, nan, mul, binary32}
+use lib.ListN.{length, get_or, set}
+use Rattle.laws.proofs.Written.{none, store, low}
+use Rattle.laws.proofs.Slots.{slot_div, slot_mod, slot_is}
+use Rattle.laws.specs.Written.{Written}
+use Rattle.laws.specs.Floats.{negative}
+use Rattle.messages.specs.Memory.{reading}
+use Rattle.slots.specs.Row.{Check, weighed}
+use Rattle.single.proofs.send.Given as goal
+
+abbrev pub SentUpto : ℕ → ℕ → ℕ → ℕ → List ℕ → Float → Float → Float → ℕ → List Float → List Float → Type 0
+SentUpto from to z t edges below other size i work₀ work =
+    Written nan to (Check edges i z t) (weighed below other size (reading work₀ from)) work₀ work
+
+-- the turn i stores at the slot of its base edge
+module _ (work₀ work : List Float) (from to z t : ℕ) (edges : List ℕ) (below other size : Float) (i s : ℕ) (t-lt : t < z)
+    (is : s ≡ get_or edges i 0 * z + t) where
+  pub here : Check edges (i + 1) z t s
+  here =
+      record {
+        among = record { index = i; inside = omega arith; is = sym (ap (λ (x : ℕ). x / z) is ∙ slot_div (get_or edges i 0) z t t-lt) };
+        has = ap (λ (x : ℕ). x % z) is ∙ slot_mod (get_or edges i 0) z t t-lt;
+      }
+
+  pub back : (j : ℕ) → Check edges (i + 1) z t j → (j ≡ s → ⊥) → Check edges i z t j
+  back j p n = by (ℕ_discrete p.among.index i)
+    where
+      by : Dec (p.among.index ≡ i) → Check edges i z t j
+      by (yes e) =
+          absurd (n (slot_is j z (get_or edges i 0) t (sym p.among.is ∙ ap (λ (x : ℕ). get_or edges x 0) e) p.has ∙ sym is))
+      by (no e) =
+          record { among = record { index = p.among.index; inside = omega (arith, p.among.inside); is = p.among.is }; has = p.has }
+
+  pub turn : SentUpto from to z t edges below other size i work₀ work → from + (get_or edges i 0 * z + z) ≤ to → to + (get_or edges i 0 * z + z) ≤ length work₀
+      → (v : Float) → v ≡ mul binary32 (cond (negative (get_or work (from + s) nan)) below other) size
+      → SentUpto from to z t edges below other size (i + 1) work₀ (set work (to + s) v)
+  unfolding weighed
+  turn W before inside v e =
+      store s v W (omega (arith, is))
+      (e ∙ ap (λ x. mul binary32 (cond (negative x) below other) size) (low W (from + s) (omega (arith, is))))
+      here
+      (λ j p. record { among = record { index = p.among.index; inside = omega (arith, p.among.inside); is = p.among.is }; has = p.has })
+      back
+
+abbrev pub invariant-loop-i : goal.invariant-loop-i
+invariant-loop-i l = (l.i ≤ length l.edges) × SentUpto l.from l.to l.z l.t l.edges l.below l.other l.magnitude l.i l.initial.work l.work
+
+abbrev pub decreases-loop-i : goal.decreases-loop-i
+decreases-loop-i l = length l.edges - l.i
