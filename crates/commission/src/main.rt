@@ -117,7 +117,13 @@ fn print_codes(rt: &impl Print) -> io::Result<()> {
 }
 
 // Of two columns of a graph with 5 base columns.
-fn print_cycles(rt: &impl Print, rows: &[u8], shifts: &[u16], z: usize, after: u8) -> io::Result<()> {
+fn print_cycles(
+    rt: &impl Print,
+    rows: &[u8],
+    shifts: &[u16],
+    z: usize,
+    after: u8,
+) -> io::Result<()> {
     text::print_number(rt, z, b':')?;
     text::print_bytes(rt, b" ")?;
     match graph::four_cycles(5, 2, rows, shifts, z) {
@@ -127,7 +133,10 @@ fn print_cycles(rt: &impl Print, rows: &[u8], shifts: &[u16], z: usize, after: u
 }
 
 fn print_four_cycles(rt: &impl Print) -> io::Result<()> {
-    text::print_bytes(rt, b"columns (0,0)(1,0)(2,0) and (0,0)(1,0)(2,1), n_b 5: four-cycles at z ")?;
+    text::print_bytes(
+        rt,
+        b"columns (0,0)(1,0)(2,0) and (0,0)(1,0)(2,1), n_b 5: four-cycles at z ",
+    )?;
     let rows: [u8; 6] = [0, 1, 2, 0, 1, 2];
     let shifts: [u16; 6] = [0, 0, 0, 0, 0, 1];
     print_cycles(rt, &rows, &shifts, 5, b',')?;

@@ -19,7 +19,14 @@ fn print_answer(rt: &impl Print, answer: ReadOut, word: &[u8]) -> io::Result<()>
     }
 }
 
-fn print_asked(rt: &impl Print, rate: usize, n_tx: usize, kind: usize, seed: usize, limit: u16) -> io::Result<()> {
+fn print_asked(
+    rt: &impl Print,
+    rate: usize,
+    n_tx: usize,
+    kind: usize,
+    seed: usize,
+    limit: u16,
+) -> io::Result<()> {
     text::print_bytes(rt, b"decode ")?;
     text::print_number(rt, rate, b' ')?;
     text::print_number(rt, n_tx, b' ')?;
@@ -29,7 +36,14 @@ fn print_asked(rt: &impl Print, rate: usize, n_tx: usize, kind: usize, seed: usi
 }
 
 // Up to 1,000 readings. The work memory is not 0 beforehand, which is to make no difference.
-pub fn print_decode(rt: &impl Print, rate: usize, kind: usize, seed: usize, limit: u16, rx: &[f32]) -> io::Result<()> {
+pub fn print_decode(
+    rt: &impl Print,
+    rate: usize,
+    kind: usize,
+    seed: usize,
+    limit: u16,
+    rx: &[f32],
+) -> io::Result<()> {
     let n = rx.len();
     if 1000 < n {
         return Ok(());

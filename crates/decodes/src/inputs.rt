@@ -26,7 +26,13 @@ fn write_readings(
     fill_readings(kind, seed, word, rx);
 }
 
-fn print_limits(rt: &impl Print, rate: usize, kind: usize, seed: usize, rx: &[f32]) -> io::Result<()> {
+fn print_limits(
+    rt: &impl Print,
+    rate: usize,
+    kind: usize,
+    seed: usize,
+    rx: &[f32],
+) -> io::Result<()> {
     print_decode(rt, rate, kind, seed, 0, rx)?;
     print_decode(rt, rate, kind, seed, 1, rx)?;
     print_decode(rt, rate, kind, seed, 2, rx)?;
@@ -35,7 +41,13 @@ fn print_limits(rt: &impl Print, rate: usize, kind: usize, seed: usize, rx: &[f3
 }
 
 // Codes of up to 1,000 bits.
-pub fn print_decodes(rt: &impl Print, c: Code, rate: usize, kind: usize, seed: usize) -> io::Result<()> {
+pub fn print_decodes(
+    rt: &impl Print,
+    c: Code,
+    rate: usize,
+    kind: usize,
+    seed: usize,
+) -> io::Result<()> {
     let k = c.info_bits();
     let n = c.coded_bits();
     if 1000 < k {

@@ -16,8 +16,8 @@ ghost use Rattle.std.specs.Prelude.{◌<◌};
 use calls::Call;
 use decoder::{Decode, DecodeResult, Granted, ReadOut};
 use ldpc::{Choice, Code};
-use tally::Totals;
 use std::io;
+use tally::Totals;
 
 // A list under way: the record last returned, the sum of the accepted grants, the generator's state, and the totals.
 #[derive(Clone, Copy)]

@@ -1,5 +1,4 @@
 -- `info_edge` meets its contract. Assumes nothing.
-use borrow.Author.Rules.{rules}
 use Rattle.base_edges.specs.Edge.{graph_in}
 use Rattle.base_edges.proofs.Edges.{info_is}
 use Rattle.base_edges.proofs.info_edge.Goals as goal

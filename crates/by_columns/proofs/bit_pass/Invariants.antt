@@ -1,16 +1,11 @@
 -- `bit_pass` meets its contract. The invariant: the columns below v are done. Assumes nothing.
 use Prim.Native.Nat.{◌+◌, ◌-◌, ◌≤◌, ◌<◌}
-use native.Mathlib.Omega.{arith}
-use lib.ListN.{length}
 use lib.Ieee.{nan}
 use Rattle.laws.specs.Written.{Written}
-use Rattle.laws.proofs.Written.{Upto, upto_none}
+use Rattle.laws.proofs.Written.{Upto}
 use Rattle.messages.specs.Memory.{bits_of, slots_of}
 use Rattle.ldpc.specs.Code.{code_graph}
-use Rattle.ldpc.proofs.CodeEdges.{code_simple}
 use Rattle.by_columns.specs.Columns.{bit_sent, column_of}
-use Rattle.sizes.proofs.Lent.{Known, known, ready_still}
-use Rattle.by_columns.proofs.ByColumns.{column_turn, columns_done}
 use Rattle.by_columns.proofs.bit_pass.Given as goal
 
 abbrev pub invariant-loop-v : goal.invariant-loop-v

@@ -1,7 +1,6 @@
 -- `listed_column` meets its contract. Assumes nothing.
 use Prim.Native.Nat.{◌+◌, ◌*◌, ◌≤◌}
 use native.Mathlib.Omega.{arith}
-use borrow.Author.Rules.{rules}
 use lib.ListN.{length}
 use Rattle.sizes.proofs.Lent.{Known, known}
 use Rattle.by_columns.proofs.ColumnLists.{column_within, column_asked, column_done}

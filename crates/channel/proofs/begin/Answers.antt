@@ -1,6 +1,5 @@
 -- `begin` meets its contract. Assumes nothing.
 use mathlib.Core.Path.{ap}
-use borrow.Author.Rules.{rules}
 use Rattle.lists.specs.Lists.{lists_of}
 use Rattle.channel.proofs.begin.Goals as goal
 

@@ -1,9 +1,6 @@
 -- `count_members` meets its contract. Assumes nothing.
 use mathlib.Core.Path.{◌≡◌, refl, sym, ap, ◌∙◌}
-use mathlib.Core.Logic.{⊎_elim}
-use Prim.Native.Nat.{◌-◌, ◌≤◌}
 use native.Mathlib.Omega.{arith}
-use borrow.Author.Rules.{rules}
 use Rattle.laws.specs.Range.{count as counted}
 use Rattle.laws.proofs.Collect.{count_more, count_skip}
 use Rattle.check_lists.specs.Members.{is_member}

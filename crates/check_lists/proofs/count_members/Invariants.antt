@@ -1,13 +1,8 @@
 -- `count_members` meets its contract. Assumes nothing.
-use mathlib.Core.Path.{◌≡◌, refl, sym, ap, ◌∙◌}
-use mathlib.Core.Logic.{⊎_elim}
+use mathlib.Core.Path.{◌≡◌}
 use Prim.Native.Nat.{◌-◌, ◌≤◌}
-use native.Mathlib.Omega.{arith}
-use borrow.Author.Rules.{rules}
 use Rattle.laws.specs.Range.{count as counted}
-use Rattle.laws.proofs.Collect.{count_more, count_skip}
 use Rattle.check_lists.specs.Members.{is_member}
-use Rattle.check_lists.proofs.Member.{place_told, none_told}
 use Rattle.check_lists.proofs.count_members.Given as goal
 
 abbrev pub invariant-loop-b : goal.invariant-loop-b

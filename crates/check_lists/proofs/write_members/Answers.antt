@@ -1,15 +1,10 @@
 -- `write_members` meets its contract. The invariant: the members of the edges before b stand in front of what was there. Assumes nothing.
 use mathlib.Core.Path.{◌≡◌, refl, sym, ap, ◌∙◌}
-use mathlib.Core.List.{List, ◌++◌}
-use mathlib.Core.Bool.{true}
-use mathlib.Core.Logic.{⊎_elim}
-use Prim.Native.Nat.{ℕ, ◌+◌, ◌-◌, ◌<◌, ◌≤◌}
+use Prim.Native.Nat.{ℕ}
 use native.Mathlib.Omega.{arith}
-use borrow.Author.Rules.{rules}
-use lib.ListN.{length, drop, set}
+use lib.ListN.{length}
 use Rattle.laws.specs.Range.{count as counted, collect}
-use Rattle.laws.proofs.Collect.{count_more, count_skip, count_lt, length_front, front_more, front_skip}
-use Rattle.ldpc.specs.declared.choice.Code.{Code}
+use Rattle.laws.proofs.Collect.{count_more, count_skip, count_lt, length_front, front_skip}
 use Rattle.ldpc.proofs.Made.{sized}
 use Rattle.check_lists.specs.declared.Sent.TheVariants.{Place}
 use Rattle.check_lists.specs.Members.{is_member, member_place}

@@ -1,19 +1,14 @@
 -- `write_members` meets its contract. The invariant: the members of the edges before b stand in front of what was there. Assumes nothing.
-use mathlib.Core.Path.{◌≡◌, refl, sym, ap, ◌∙◌}
+use mathlib.Core.Path.{◌≡◌}
 use mathlib.Core.List.{List, ◌++◌}
 use mathlib.Core.Bool.{true}
-use mathlib.Core.Logic.{⊎_elim}
 use Prim.Native.Nat.{ℕ, ◌+◌, ◌-◌, ◌<◌, ◌≤◌}
 use native.Mathlib.Omega.{arith}
-use borrow.Author.Rules.{rules}
 use lib.ListN.{length, drop, set}
 use Rattle.laws.specs.Range.{count as counted, collect}
-use Rattle.laws.proofs.Collect.{count_more, count_skip, count_lt, length_front, front_more, front_skip}
+use Rattle.laws.proofs.Collect.{front_more}
 use Rattle.ldpc.specs.declared.choice.Code.{Code}
-use Rattle.ldpc.proofs.Made.{sized}
-use Rattle.check_lists.specs.declared.Sent.TheVariants.{Place}
 use Rattle.check_lists.specs.Members.{is_member, member_place}
-use Rattle.check_lists.proofs.Member.{place_told, none_told, member_lt}
 use Rattle.check_lists.proofs.write_members.Given as goal
 
 -- the members of the edges before b, in front of what was there

@@ -1,7 +1,6 @@
 -- `row_settled` meets its contract. Assumes nothing.
 use mathlib.Core.Path.{◌∙◌}
 use native.Mathlib.Omega.{arith}
-use borrow.Author.Rules.{rules}
 use lib.ListN.{length}
 use Rattle.ldpc.specs.Code.{code_graph}
 use Rattle.sizes.proofs.Lent.{known, row_in, part_of, edge_in}

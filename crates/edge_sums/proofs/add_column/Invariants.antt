@@ -1,17 +1,11 @@
 -- `add_column` meets its contract. The invariant: the sums over the first b edges stand. Assumes nothing.
-use mathlib.Core.Path.{◌≡◌, ap, ◌∙◌, sym, subst}
-use Prim.Native.Nat.{ℕ, ◌*◌, ◌/◌, ◌-◌, ◌<◌, ◌≤◌}
+use mathlib.Core.Path.{◌≡◌}
+use Prim.Native.Nat.{ℕ, ◌*◌, ◌-◌, ◌<◌, ◌≤◌}
 use native.Mathlib.Omega.{arith}
-use lib.ListN.{length}
 use Rattle.matrix.specs.Edges.{edges}
-use Rattle.matrix.proofs.Edges.{info_column}
-use Rattle.base_edges.specs.Edge.{edge_of}
 use Rattle.ldpc.specs.declared.choice.Code.{Code}
 use Rattle.ldpc.specs.Code.{code_graph}
-use Rattle.ldpc.proofs.Made.{sized}
-use Rattle.ldpc.proofs.CodeEdges.{edge_told_lem}
-use Rattle.edge_sums.specs.Sums.{PartOf, sums_of}
-use Rattle.edge_sums.proofs.Summed.{length_sums}
+use Rattle.edge_sums.specs.Sums.{sums_of}
 use Rattle.edge_sums.proofs.add_column.Given as goal
 
 pub below : (c : Code) (b : ℕ) → b < 3 * (code_graph c).shape.k_b → b < edges (code_graph c)

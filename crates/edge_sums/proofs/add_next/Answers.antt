@@ -1,6 +1,5 @@
 -- `add_next` meets its contract. Assumes nothing.
 use mathlib.Core.Path.{ap}
-use borrow.Author.Rules.{rules}
 use Rattle.ldpc.proofs.CodeEdges.{edge_asked, edge_told_lem, edged}
 use Rattle.edge_sums.proofs.add_next.Goals as goal
 

@@ -1,8 +1,7 @@
 -- `info_sums` meets its contract. The invariant: the sums over the first j columns stand. Assumes nothing.
-use mathlib.Core.Path.{◌≡◌, ap, ◌∙◌, sym}
-use Prim.Native.Nat.{◌*◌, ◌-◌, ◌≤◌}
+use mathlib.Core.Path.{ap, ◌∙◌, sym}
+use Prim.Native.Nat.{◌*◌}
 use native.Mathlib.Omega.{arith}
-use borrow.Author.Rules.{rules}
 use lib.ListN.{length}
 use Rattle.laws.specs.Written.{tabulate}
 use Rattle.edge_sums.specs.Sums.{sums_of}

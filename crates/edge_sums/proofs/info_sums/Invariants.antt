@@ -1,12 +1,7 @@
 -- `info_sums` meets its contract. The invariant: the sums over the first j columns stand. Assumes nothing.
-use mathlib.Core.Path.{◌≡◌, ap, ◌∙◌, sym}
+use mathlib.Core.Path.{◌≡◌}
 use Prim.Native.Nat.{◌*◌, ◌-◌, ◌≤◌}
-use native.Mathlib.Omega.{arith}
-use borrow.Author.Rules.{rules}
-use lib.ListN.{length}
-use Rattle.laws.specs.Written.{tabulate}
 use Rattle.edge_sums.specs.Sums.{sums_of}
-use Rattle.edge_sums.proofs.Summed.{length_sums, no_sums}
 use Rattle.edge_sums.proofs.info_sums.Given as goal
 
 abbrev pub invariant-loop-j : goal.invariant-loop-j

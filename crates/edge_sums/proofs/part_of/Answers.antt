@@ -2,7 +2,6 @@
 use Prim.Native.Nat.{ℕ, ◌*◌, ◌-◌, ◌≤◌}
 use native.Mathlib.Omega.{arith}
 use native.Mathlib.Nat.{mul-le-mul}
-use borrow.Author.Rules.{rules}
 use Rattle.ldpc.specs.Code.{code_graph}
 use Rattle.ldpc.proofs.Made.{Sized, sized}
 use Rattle.edge_sums.proofs.Parts.{info_part, parity_part}

@@ -1,8 +1,6 @@
 -- `row_sums` meets its contract. The invariant: the sums over the first b edges stand. Assumes nothing.
 use mathlib.Core.Path.{◌≡◌, ap, ◌∙◌, sym}
-use Prim.Native.Nat.{◌-◌, ◌≤◌}
 use native.Mathlib.Omega.{arith}
-use borrow.Author.Rules.{rules}
 use lib.ListN.{length}
 use Rattle.ldpc.specs.Code.{code_graph}
 use Rattle.ldpc.proofs.Made.{sized}

@@ -1,13 +1,7 @@
 -- `row_sums` meets its contract. The invariant: the sums over the first b edges stand. Assumes nothing.
-use mathlib.Core.Path.{◌≡◌, ap, ◌∙◌, sym}
+use mathlib.Core.Path.{◌≡◌}
 use Prim.Native.Nat.{◌-◌, ◌≤◌}
-use native.Mathlib.Omega.{arith}
-use borrow.Author.Rules.{rules}
-use lib.ListN.{length}
-use Rattle.ldpc.specs.Code.{code_graph}
-use Rattle.ldpc.proofs.Made.{sized}
 use Rattle.edge_sums.specs.Sums.{sums_of}
-use Rattle.edge_sums.proofs.Summed.{length_sums}
 use Rattle.edge_sums.proofs.row_sums.Given as goal
 
 abbrev pub invariant-loop-b : goal.invariant-loop-b

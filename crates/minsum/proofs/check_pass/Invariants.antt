@@ -1,15 +1,10 @@
 -- `check_pass` meets its contract. The invariant: the rows below r are done. Assumes nothing.
 use Prim.Native.Nat.{◌/◌, ◌-◌, ◌≤◌, ◌<◌}
-use native.Mathlib.Omega.{arith}
 use lib.Ieee.{nan}
-use lib.ListN.{length}
-use Rattle.laws.proofs.Written.{Upto, upto_none}
+use Rattle.laws.proofs.Written.{Upto}
 use Rattle.laws.specs.Written.{Written}
-use Rattle.ldpc.proofs.CodeEdges.{code_simple}
 use Rattle.matrix.specs.Edges.{edge_row}
 use Rattle.messages.specs.Memory.{slots_of, to_checks_at, to_bits_at, reading}
-use Rattle.sizes.proofs.Lent.{known, ready_still}
-use Rattle.minsum.proofs.Rows.{check_turn, check_done}
 use Rattle.messages.specs.Iteration.{to_bit}
 use Rattle.ldpc.specs.Code.{code_graph}
 use Rattle.minsum.proofs.check_pass.Given as goal

@@ -1,5 +1,4 @@
 -- `iterate` meets its contract. Assumes nothing.
-use borrow.Author.Rules.{rules}
 use Rattle.messages.specs.Iteration.{iteration}
 use Rattle.sizes.proofs.Lent.{ready_still}
 use Rattle.minsum.proofs.iterate.Goals as goal

@@ -1,6 +1,5 @@
 -- `row_pass` meets its contract. Assumes nothing.
 use native.Mathlib.Omega.{arith}
-use borrow.Author.Rules.{rules}
 use lib.ListN.{length}
 use Rattle.minsum.proofs.Rows.{row_told}
 use Rattle.ldpc.specs.Code.{code_graph}

@@ -1,6 +1,5 @@
 -- `rule::flipped` meets its contract. Assumes nothing.
 use mathlib.Core.Path.{◌∙◌}
-use borrow.Author.Rules.{rules}
 use Rattle.laws.proofs.Parity.{unlike_xor}
 use Rattle.rule.proofs.flipped.Goals as goal
 

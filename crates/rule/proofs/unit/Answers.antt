@@ -6,7 +6,6 @@ use lib.Ieee.{binary32}
 use lib.IntN.{pos}
 use mir.Val.{bool_byte}
 use Rattle.laws.specs.Floats.{signed}
-use borrow.Author.Rules.{rules}
 use Rattle.rule.proofs.unit.Goals as goal
 
 computed :

@@ -2,7 +2,6 @@
 use mathlib.Core.Path.{◌≡◌, sym, ap, subst}
 use native.Mathlib.Omega.{arith}
 use lib.ListN.{length}
-use borrow.Author.Rules.{rules}
 use Rattle.runs.proofs.Steps.{stays}
 use Rattle.laws.proofs.Written.{length_tabulate}
 use Rattle.ldpc.specs.declared.choice.Code.{Code}

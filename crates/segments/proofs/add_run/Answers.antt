@@ -1,15 +1,12 @@
 -- `add_run` meets its contract. The invariant: the first i numbers are added. Assumes nothing.
-use mathlib.Core.List.{List}
-use mathlib.Core.Path.{◌≡◌, refl, ap₂, ◌∙◌}
-use Prim.Native.Nat.{ℕ, ◌+◌, ◌-◌, ◌≤◌, ◌<◌}
+use mathlib.Core.Path.{refl}
+use Prim.Native.Nat.{◌+◌}
 use native.Mathlib.Omega.{arith}
-use lib.Ieee.{Float, nan, add, binary32}
-use lib.ListN.{length, get_or, set}
-use Rattle.laws.proofs.Written.{Upto, upto_none, upto_next, upto_all, high}
-use Rattle.laws.specs.Written.{Written}
-use Rattle.messages.specs.Memory.{reading}
+use lib.Ieee.{nan, add, binary32}
+use lib.ListN.{get_or}
+use Rattle.laws.proofs.Written.{upto_none, upto_all}
 use Rattle.segments.proofs.add_run.Goals as goal
-use Rattle.segments.proofs.add_run.Invariants.{AddedUpto, turn}
+use Rattle.segments.proofs.add_run.Invariants.{turn}
 
 pub loop-i-init : goal.loop-i-init
 loop-i-init c = (omega arith, upto_none)

@@ -1,11 +1,11 @@
 -- `add_run` meets its contract. The invariant: the first i numbers are added. Assumes nothing.
 use mathlib.Core.List.{List}
-use mathlib.Core.Path.{◌≡◌, refl, ap₂, ◌∙◌}
+use mathlib.Core.Path.{◌≡◌, ap₂, ◌∙◌}
 use Prim.Native.Nat.{ℕ, ◌+◌, ◌-◌, ◌≤◌, ◌<◌}
 use native.Mathlib.Omega.{arith}
 use lib.Ieee.{Float, nan, add, binary32}
 use lib.ListN.{length, get_or, set}
-use Rattle.laws.proofs.Written.{Upto, upto_none, upto_next, upto_all, high}
+use Rattle.laws.proofs.Written.{Upto, upto_next, high}
 use Rattle.laws.specs.Written.{Written}
 use Rattle.messages.specs.Memory.{reading}
 use Rattle.segments.proofs.add_run.Given as goal

@@ -1,5 +1,4 @@
 -- `add_turned` meets its contract. Assumes nothing.
-use borrow.Author.Rules.{rules}
 use Rattle.segments.proofs.Turned.{added_turned}
 use Rattle.segments.proofs.add_turned.Goals as goal
 

@@ -1,6 +1,5 @@
 -- `copy_turned` meets its contract. Assumes nothing.
 use native.Mathlib.Omega.{arith}
-use borrow.Author.Rules.{rules}
 use Rattle.segments.proofs.Turned.{copied_one, copied_turned}
 use Rattle.segments.proofs.copy_turned.Goals as goal
 

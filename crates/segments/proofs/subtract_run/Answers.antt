@@ -1,15 +1,12 @@
 -- `subtract_run` meets its contract. The invariant: the first i differences are written. Assumes nothing.
-use mathlib.Core.List.{List}
-use mathlib.Core.Path.{◌≡◌, refl, ap₂, ◌∙◌}
-use Prim.Native.Nat.{ℕ, ◌+◌, ◌-◌, ◌≤◌, ◌<◌}
+use mathlib.Core.Path.{refl}
+use Prim.Native.Nat.{◌+◌}
 use native.Mathlib.Omega.{arith}
-use lib.ListN.{length, get_or, set}
-use lib.Ieee.{Float, nan, sub, binary32}
-use Rattle.laws.specs.Written.{Written}
-use Rattle.laws.proofs.Written.{Upto, upto_none, upto_next, upto_all, low, high}
-use Rattle.messages.specs.Memory.{reading}
+use lib.ListN.{get_or}
+use lib.Ieee.{nan, sub, binary32}
+use Rattle.laws.proofs.Written.{upto_none, upto_all}
 use Rattle.segments.proofs.subtract_run.Goals as goal
-use Rattle.segments.proofs.subtract_run.Invariants.{LessUpto, turn}
+use Rattle.segments.proofs.subtract_run.Invariants.{turn}
 
 pub loop-i-init : goal.loop-i-init
 loop-i-init c = (omega arith, upto_none)

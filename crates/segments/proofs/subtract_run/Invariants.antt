@@ -1,12 +1,12 @@
 -- `subtract_run` meets its contract. The invariant: the first i differences are written. Assumes nothing.
 use mathlib.Core.List.{List}
-use mathlib.Core.Path.{◌≡◌, refl, ap₂, ◌∙◌}
+use mathlib.Core.Path.{◌≡◌, ap₂, ◌∙◌}
 use Prim.Native.Nat.{ℕ, ◌+◌, ◌-◌, ◌≤◌, ◌<◌}
 use native.Mathlib.Omega.{arith}
 use lib.ListN.{length, get_or, set}
 use lib.Ieee.{Float, nan, sub, binary32}
 use Rattle.laws.specs.Written.{Written}
-use Rattle.laws.proofs.Written.{Upto, upto_none, upto_next, upto_all, low, high}
+use Rattle.laws.proofs.Written.{Upto, upto_next, low, high}
 use Rattle.messages.specs.Memory.{reading}
 use Rattle.segments.proofs.subtract_run.Given as goal
 

@@ -1,5 +1,4 @@
 -- `subtract_turned` meets its contract. Assumes nothing.
-use borrow.Author.Rules.{rules}
 use Rattle.segments.proofs.Turned.{subtracted_turned}
 use Rattle.segments.proofs.subtract_turned.Goals as goal
 

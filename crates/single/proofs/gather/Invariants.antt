@@ -1,17 +1,12 @@
 -- `gather` meets its contract. The invariant: the first i base edges are gathered. Assumes nothing.
-use mathlib.Core.Path.{◌≡◌, sym, ap, ◌∙◌, subst}
+use mathlib.Core.Path.{◌≡◌, sym, ◌∙◌}
 use mathlib.Core.List.{List}
 use Prim.Native.Nat.{ℕ, ◌+◌, ◌*◌, ◌-◌, ◌≤◌, ◌<◌}
-use native.Mathlib.Omega.{arith}
-use borrow.Author.Rules.{rules}
 use lib.ListN.{length, take, get_or}
-use lib.Seq.{take_all}
 use lib.Ieee.{Float, nan}
-use Rattle.laws.specs.Range.{folded}
 use Rattle.laws.proofs.Folded.{folded_more}
 use Rattle.messages.specs.Iteration.{gathered}
 use Rattle.rule.specs.Rule.{started, taken, Ordered}
-use Rattle.rule.proofs.Ordered.{started_ordered}
 use Rattle.messages.specs.Memory.{reading}
 use Rattle.rule.specs.declared.Least.{Least}
 use Rattle.single.proofs.gather.Given as goal

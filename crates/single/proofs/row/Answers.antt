@@ -1,20 +1,9 @@
 -- `row` meets its contract. The invariant: the checks at the offsets below t are done. Assumes nothing.
-use mathlib.Core.List.{List}
-use mathlib.Core.Path.{◌≡◌, refl, sym}
-use Prim.Native.Nat.{ℕ, ◌+◌, ◌*◌, ◌%◌, ◌-◌, ◌≤◌, ◌<◌}
 use native.Mathlib.Omega.{arith}
 use native.Mathlib.Nat.{mod-lt}
-use lib.ListN.{length, get_or}
-use lib.Ieee.{Float, nan}
-use Rattle.laws.proofs.Slots.{slot_is}
-use Rattle.laws.proofs.Written.{Upto, upto_none, upto_run, upto_all, low}
-use Rattle.laws.specs.Written.{Written, At}
-use Rattle.messages.proofs.Local.{answer_agrees}
-use Rattle.slots.specs.Row.{Of, Within}
-use Rattle.messages.specs.Iteration.{answer}
-use Rattle.messages.specs.Memory.{reading}
+use Rattle.laws.proofs.Written.{upto_none, upto_all}
 use Rattle.single.proofs.row.Goals as goal
-use Rattle.single.proofs.row.Invariants.{DoneUpto, turn}
+use Rattle.single.proofs.row.Invariants.{turn}
 
 pub loop-t-init : goal.loop-t-init
 loop-t-init c = (omega arith, upto_none)

@@ -7,7 +7,7 @@ use native.Mathlib.Nat.{mod-lt}
 use lib.ListN.{length, get_or}
 use lib.Ieee.{Float, nan}
 use Rattle.laws.proofs.Slots.{slot_is}
-use Rattle.laws.proofs.Written.{Upto, upto_none, upto_run, upto_all, low}
+use Rattle.laws.proofs.Written.{Upto, upto_run, low}
 use Rattle.laws.specs.Written.{Written, At}
 use Rattle.messages.proofs.Local.{answer_agrees}
 use Rattle.slots.specs.Row.{Of, Within}

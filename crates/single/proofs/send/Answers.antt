@@ -1,21 +1,12 @@
 -- `send` meets its contract. The invariant: the slots of the first i base edges are written. Assumes nothing.
-use mathlib.Core.List.{List}
-use mathlib.Core.Path.{◌≡◌, sym, ap, ◌∙◌, subst}
-use mathlib.Core.Bool.{cond}
-use Prim.Native.Nat.{ℕ, ◌+◌, ◌*◌, ◌/◌, ◌%◌, ◌-◌, ◌≤◌, ◌<◌}
-use native.Mathlib.Decide.{ℕ_discrete}
+use mathlib.Core.Path.{◌≡◌, ap, subst}
+use Prim.Native.Nat.{ℕ}
 use native.Mathlib.Omega.{arith}
-use borrow.Author.Rules.{rules}
-use lib.Ieee.{Float, nan, mul, binary32}
-use lib.ListN.{length, get_or, set}
-use Rattle.laws.proofs.Written.{none, store, low}
-use Rattle.laws.proofs.Slots.{slot_div, slot_mod, slot_is}
-use Rattle.laws.specs.Written.{Written}
-use Rattle.laws.specs.Floats.{negative}
-use Rattle.messages.specs.Memory.{reading}
-use Rattle.slots.specs.Row.{Check, weighed}
+use lib.Ieee.{mul, binary32}
+use lib.ListN.{length}
+use Rattle.laws.proofs.Written.{none}
 use Rattle.single.proofs.send.Goals as goal
-use Rattle.single.proofs.send.Invariants.{SentUpto, here, back, turn}
+use Rattle.single.proofs.send.Invariants.{SentUpto, turn}
 
 pub loop-i-init : goal.loop-i-init
 loop-i-init c = (omega arith, none (λ s p. omega (arith, p.among.inside)))

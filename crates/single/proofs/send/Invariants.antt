@@ -1,14 +1,13 @@
 -- `send` meets its contract. The invariant: the slots of the first i base edges are written. Assumes nothing.
 use mathlib.Core.List.{List}
-use mathlib.Core.Path.{◌≡◌, sym, ap, ◌∙◌, subst}
+use mathlib.Core.Path.{◌≡◌, sym, ap, ◌∙◌}
 use mathlib.Core.Bool.{cond}
 use Prim.Native.Nat.{ℕ, ◌+◌, ◌*◌, ◌/◌, ◌%◌, ◌-◌, ◌≤◌, ◌<◌}
 use native.Mathlib.Decide.{ℕ_discrete}
 use native.Mathlib.Omega.{arith}
-use borrow.Author.Rules.{rules}
 use lib.Ieee.{Float, nan, mul, binary32}
 use lib.ListN.{length, get_or, set}
-use Rattle.laws.proofs.Written.{none, store, low}
+use Rattle.laws.proofs.Written.{store, low}
 use Rattle.laws.proofs.Slots.{slot_div, slot_mod, slot_is}
 use Rattle.laws.specs.Written.{Written}
 use Rattle.laws.specs.Floats.{negative}

@@ -2,7 +2,6 @@
 use Prim.Native.Nat.{◌+◌, ◌*◌, ◌≤◌}
 use native.Mathlib.Omega.{arith}
 use native.Mathlib.Nat.{mul-le-mul}
-use borrow.Author.Rules.{rules}
 use Rattle.ldpc.specs.Code.{code_graph}
 use Rattle.messages.specs.Memory.{bits_of, slots_of}
 use Rattle.matrix.specs.Edges.{edges}

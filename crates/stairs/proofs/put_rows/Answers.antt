@@ -1,17 +1,16 @@
 -- `put_rows` meets its contract. The invariant: i rows are parity, and `next` is row i. Assumes nothing.
-use mathlib.Core.Path.{◌≡◌, refl, sym, ap, ◌∙◌, subst}
-use Prim.Native.Nat.{ℕ, ◌/◌, ◌+◌, ◌*◌, ◌-◌, ◌≤◌}
+use mathlib.Core.Path.{refl, sym, ap, ◌∙◌, subst}
+use Prim.Native.Nat.{ℕ, ◌/◌, ◌+◌, ◌*◌, ◌≤◌}
 use native.Mathlib.Nat.{mul-le-mul}
 use lib.Dec.{eqb}
 use lib.ListN.{length}
 use Rattle.laws.proofs.Slots.{row_le}
-use Rattle.bits.specs.Rows.{Holds, Stepped}
+use Rattle.bits.specs.Rows.{Stepped}
 use Rattle.ldpc.specs.Code.{checks_of}
 use Rattle.ldpc.proofs.Made.{sized}
-use Rattle.stairs.specs.Stairs.{stair_bit, stairs}
+use Rattle.stairs.specs.Stairs.{stairs}
 use Rattle.stairs.proofs.Staired.{length_stairs, rows_more, next_more}
 use native.Mathlib.Omega.{arith}
-use borrow.Author.Rules.{rules}
 use Rattle.stairs.proofs.put_rows.Goals as goal
 
 pub loop-i-init : goal.loop-i-init

@@ -1,17 +1,9 @@
 -- `put_rows` meets its contract. The invariant: i rows are parity, and `next` is row i. Assumes nothing.
-use mathlib.Core.Path.{◌≡◌, refl, sym, ap, ◌∙◌, subst}
-use Prim.Native.Nat.{ℕ, ◌/◌, ◌+◌, ◌*◌, ◌-◌, ◌≤◌}
-use native.Mathlib.Nat.{mul-le-mul}
-use lib.Dec.{eqb}
+use mathlib.Core.Path.{◌≡◌}
+use Prim.Native.Nat.{◌-◌, ◌≤◌}
 use lib.ListN.{length}
-use Rattle.laws.proofs.Slots.{row_le}
-use Rattle.bits.specs.Rows.{Holds, Stepped}
-use Rattle.ldpc.specs.Code.{checks_of}
-use Rattle.ldpc.proofs.Made.{sized}
+use Rattle.bits.specs.Rows.{Holds}
 use Rattle.stairs.specs.Stairs.{stair_bit, stairs}
-use Rattle.stairs.proofs.Staired.{length_stairs, rows_more, next_more}
-use native.Mathlib.Omega.{arith}
-use borrow.Author.Rules.{rules}
 use Rattle.stairs.proofs.put_rows.Given as goal
 
 abbrev pub invariant-loop-i : goal.invariant-loop-i

@@ -1,7 +1,6 @@
 -- `tables::first_column` meets its contract, by a test over its 18 entries. Assumes nothing.
 use mathlib.Core.List.{List, [], ◌∷◌}
 use Prim.Native.Nat.{ℕ}
-use borrow.Author.Rules.{rules}
 use lib.ListN.{get_or}
 use Rattle.laws.specs.Range.{every, sum}
 use Rattle.laws.specs.Columns.{information_columns}

@@ -1,6 +1,5 @@
 -- `tables::graph_number` meets its contract. Assumes nothing.
 use native.Mathlib.Omega.{arith}
-use borrow.Author.Rules.{rules}
 use Rattle.tables.specs.Graph.{graph_number}
 use Rattle.tables.proofs.graph_number.Goals as goal
 

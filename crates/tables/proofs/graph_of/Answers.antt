@@ -1,18 +1,14 @@
 -- `tables::graph_of` meets its contract. The invariant: the first i entries of both lists are the graph's. Assumes nothing.
-use mathlib.Core.Path.{◌≡◌, ap, ◌∙◌}
-use mathlib.Core.List.{List}
-use Prim.Native.Nat.{ℕ, ◌+◌, ◌*◌, ◌-◌, ◌<◌, ◌≤◌}
+use mathlib.Core.Path.{◌≡◌, ap}
+use Prim.Native.Nat.{ℕ, ◌+◌, ◌*◌, ◌<◌, ◌≤◌}
 use native.Mathlib.Omega.{arith}
-use borrow.Author.Rules.{rules}
-use borrow.Author.Tests.{lt-ltb, le-ltb}
-use lib.ListN.{length, get_or, set, replicate, get_or-replicate}
-use Rattle.laws.specs.Written.{Written, tabulate}
-use Rattle.laws.proofs.Written.{Upto, upto_none, upto_front, filled}
+use lib.ListN.{replicate}
+use Rattle.laws.proofs.Written.{upto_none}
 use Rattle.tables.specs.Flat.{row_list, shift_list}
-use Rattle.tables.specs.Graph.{info_columns, first_column, entry_at, row_at, shift_at, shape_of, graph_of}
+use Rattle.tables.specs.Graph.{info_columns, row_at, shift_at, shape_of, graph_of}
 use Rattle.tables.proofs.Sizes.{number_lt, sizes}
 use Rattle.tables.proofs.graph_of.Goals as goal
-use Rattle.tables.proofs.graph_of.Invariants.{Copied, turn, whole}
+use Rattle.tables.proofs.graph_of.Invariants.{turn, whole}
 
 pub shape_at-s-requires : goal.shape_at-s-requires
 shape_at-s-requires c =

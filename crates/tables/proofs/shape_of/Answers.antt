@@ -1,5 +1,4 @@
 -- `tables::shape_of` meets its contract. Assumes nothing.
-use borrow.Author.Rules.{rules}
 use Rattle.tables.proofs.Sizes.{number_lt}
 use Rattle.tables.proofs.shape_of.Goals as goal
 

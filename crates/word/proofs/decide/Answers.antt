@@ -1,12 +1,6 @@
 -- `decide` meets its contract. The invariant: the first i decisions are written. Assumes nothing.
-use Prim.Native.Nat.{◌-◌, ◌≤◌, ◌<◌}
 use native.Mathlib.Omega.{arith}
-use borrow.Author.Rules.{rules}
-use Rattle.laws.specs.Floats.{negative}
-use Rattle.laws.proofs.Written.{Upto, upto_none, upto_next, upto_all}
-use Rattle.laws.specs.Written.{Written}
-use Rattle.matrix.specs.Encoding.{bit}
-use Rattle.messages.specs.Memory.{reading}
+use Rattle.laws.proofs.Written.{upto_none, upto_next, upto_all}
 use Rattle.word.proofs.decide.Goals as goal
 
 pub loop-i-init : goal.loop-i-init

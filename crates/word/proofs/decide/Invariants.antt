@@ -1,9 +1,7 @@
 -- `decide` meets its contract. The invariant: the first i decisions are written. Assumes nothing.
 use Prim.Native.Nat.{◌-◌, ◌≤◌, ◌<◌}
-use native.Mathlib.Omega.{arith}
-use borrow.Author.Rules.{rules}
 use Rattle.laws.specs.Floats.{negative}
-use Rattle.laws.proofs.Written.{Upto, upto_none, upto_next, upto_all}
+use Rattle.laws.proofs.Written.{Upto}
 use Rattle.laws.specs.Written.{Written}
 use Rattle.matrix.specs.Encoding.{bit}
 use Rattle.messages.specs.Memory.{reading}

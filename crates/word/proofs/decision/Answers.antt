@@ -1,6 +1,5 @@
 -- `decision` meets its contract. Assumes nothing.
 use mathlib.Core.Path.{ap}
-use borrow.Author.Rules.{rules}
 use Rattle.matrix.specs.Encoding.{bit}
 use Rattle.word.proofs.decision.Goals as goal
 

@@ -1,5 +1,4 @@
 -- `is_clean` meets its contract. Assumes nothing.
-use borrow.Author.Rules.{rules}
 use Rattle.word.proofs.is_clean.Goals as goal
 
 pub returns-then-converged : goal.returns-then-converged

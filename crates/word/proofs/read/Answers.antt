@@ -1,6 +1,5 @@
 -- `read` meets its contract. Assumes nothing.
 use mathlib.Core.Path.{sym, subst}
-use borrow.Author.Rules.{rules}
 use Rattle.bits.specs.Sums.{Bits}
 use Rattle.word.proofs.Word.{word_bits}
 use Rattle.word.proofs.read.Goals as goal

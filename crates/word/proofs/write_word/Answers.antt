@@ -1,6 +1,5 @@
 -- `write_word` meets its contract. Assumes nothing.
 use native.Mathlib.Omega.{arith}
-use borrow.Author.Rules.{rules}
 use lib.ListN.{length}
 use Rattle.channel.proofs.Started.{places}
 use Rattle.word.proofs.Word.{word_written}

@@ -1,10 +1,8 @@
 -- `copy_info` meets its contract. Assumes nothing.
 use mathlib.Core.Path.{refl}
-use Prim.Native.Nat.{◌-◌, ◌≤◌, ◌<◌}
 use native.Mathlib.Omega.{arith}
 use lib.ListN.{length, get_or}
-use Rattle.laws.specs.Written.{Written}
-use Rattle.laws.proofs.Written.{Upto, upto_none, upto_front, upto_all, whole}
+use Rattle.laws.proofs.Written.{upto_none, upto_front, upto_all, whole}
 use Rattle.bits.proofs.rows.copy_info.Goals as goal
 
 pub loop-i-init : goal.loop-i-init

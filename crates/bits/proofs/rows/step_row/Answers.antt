@@ -1,17 +1,11 @@
 -- `step_row` meets its contract. The invariant: both rows are written up to t. Assumes nothing.
-use mathlib.Core.Path.{◌≡◌, ap, ap₂, ◌∙◌}
-use mathlib.Core.Bool.{Bool, cond}
-use mathlib.Core.List.{List}
-use Prim.Native.Nat.{ℕ, ◌+◌, ◌-◌, ◌<◌, ◌≤◌}
+use mathlib.Core.Path.{ap₂, ◌∙◌}
 use native.Mathlib.Omega.{arith}
 use native.Mathlib.Nat.{zero-add}
-use borrow.Author.Rules.{rules}
-use lib.ListN.{length, get_or, set}
-use Rattle.laws.specs.Written.{Written}
-use Rattle.laws.proofs.Written.{Upto, upto_none, upto_next, upto_front, upto_all}
+use Rattle.laws.proofs.Written.{upto_none, upto_all}
 use Rattle.bits.specs.Sums.{differing}
 use Rattle.bits.proofs.rows.step_row.Goals as goal
-use Rattle.bits.proofs.rows.step_row.Invariants.{after, PutUpto, MadeUpto, next_same, parity_same, put_more, made_more}
+use Rattle.bits.proofs.rows.step_row.Invariants.{put_more, made_more}
 
 pub loop-t-init : goal.loop-t-init
 loop-t-init c = (omega arith, upto_none, upto_none)

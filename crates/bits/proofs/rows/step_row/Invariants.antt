@@ -5,10 +5,9 @@ use mathlib.Core.List.{List}
 use Prim.Native.Nat.{ℕ, ◌+◌, ◌-◌, ◌<◌, ◌≤◌}
 use native.Mathlib.Omega.{arith}
 use native.Mathlib.Nat.{zero-add}
-use borrow.Author.Rules.{rules}
 use lib.ListN.{length, get_or, set}
 use Rattle.laws.specs.Written.{Written}
-use Rattle.laws.proofs.Written.{Upto, upto_none, upto_next, upto_front, upto_all}
+use Rattle.laws.proofs.Written.{Upto, upto_next, upto_front}
 use Rattle.bits.specs.Sums.{differing}
 use Rattle.bits.proofs.rows.step_row.Given as goal
 

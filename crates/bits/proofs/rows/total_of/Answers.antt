@@ -1,22 +1,13 @@
 -- `total_of` meets its contract. The invariant: the first i rows are added. Assumes nothing.
-use mathlib.Core.Path.{◌≡◌, refl, sym, ap₂, ◌∙◌, ap}
-use mathlib.Core.Bool.{Bool, xor}
-use mathlib.Core.List.{List}
-use Prim.Native.Nat.{ℕ, ◌+◌, ◌*◌, ◌-◌, ◌<◌, ◌≤◌}
+use mathlib.Core.Path.{◌≡◌, refl, ◌∙◌, ap}
+use Prim.Native.Nat.{ℕ}
 use native.Mathlib.Omega.{arith}
 use native.Mathlib.Nat.{zero-add}
-use native.Mathlib.Numerals.{add-one}
-use lib.Dec.{eqb}
-use lib.ListN.{length, get_or}
+use lib.ListN.{length}
 use Rattle.laws.specs.Range.{xor_sum}
-use Rattle.laws.proofs.Slots.{slot_lt, row_le}
 use Rattle.matrix.specs.Encoding.{bit}
-use Rattle.matrix.proofs.Words.{bit_of}
-use Rattle.bits.specs.Sums.{differing, Bits, Added}
-use Rattle.bits.specs.Rows.{Holds}
-use Rattle.bits.proofs.Bytes.{differing_bits}
 use Rattle.bits.proofs.rows.total_of.Goals as goal
-use Rattle.bits.proofs.rows.total_of.Invariants.{rows_upto, rows_more, turn, row_inside}
+use Rattle.bits.proofs.rows.total_of.Invariants.{rows_upto, turn, row_inside}
 
 pub loop-i-init : goal.loop-i-init
 unfolding xor_sum

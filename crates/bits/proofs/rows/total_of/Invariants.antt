@@ -1,5 +1,5 @@
 -- `total_of` meets its contract. The invariant: the first i rows are added. Assumes nothing.
-use mathlib.Core.Path.{◌≡◌, refl, sym, ap₂, ◌∙◌, ap}
+use mathlib.Core.Path.{◌≡◌, sym, ap₂, ◌∙◌, ap}
 use mathlib.Core.Bool.{Bool, xor}
 use mathlib.Core.List.{List}
 use Prim.Native.Nat.{ℕ, ◌+◌, ◌*◌, ◌-◌, ◌<◌, ◌≤◌}

@@ -1,13 +1,11 @@
 -- `turn_back` meets its contract: the loop's writes come after the store before it. Assumes nothing.
 use mathlib.Core.Path.{◌≡◌, refl, sym, ap, ◌∙◌}
-use mathlib.Core.List.{List}
 use mathlib.Core.Logic.{inr}
-use Prim.Native.Nat.{ℕ, ◌+◌, ◌-◌, ◌%◌, ◌≤◌, ◌<◌}
+use Prim.Native.Nat.{◌+◌, ◌-◌, ◌%◌}
 use native.Mathlib.Omega.{arith}
 use lib.ListN.{length, get_or, set, length-set}
 use Rattle.laws.proofs.Slots.{back_first, back_next}
-use Rattle.laws.specs.Written.{Written}
-use Rattle.laws.proofs.Written.{Upto, upto_none, upto_front, upto_all, after, whole}
+use Rattle.laws.proofs.Written.{upto_none, upto_front, upto_all, after, whole}
 use Rattle.bits.proofs.rows.turn_back.Goals as goal
 use Rattle.bits.proofs.rows.turn_back.Invariants.{TurnedUpto}
 

@@ -1,13 +1,9 @@
 -- `turn_back` meets its contract: the loop's writes come after the store before it. Assumes nothing.
-use mathlib.Core.Path.{◌≡◌, refl, sym, ap, ◌∙◌}
 use mathlib.Core.List.{List}
-use mathlib.Core.Logic.{inr}
 use Prim.Native.Nat.{ℕ, ◌+◌, ◌-◌, ◌%◌, ◌≤◌, ◌<◌}
-use native.Mathlib.Omega.{arith}
-use lib.ListN.{length, get_or, set, length-set}
-use Rattle.laws.proofs.Slots.{back_first, back_next}
+use lib.ListN.{get_or}
 use Rattle.laws.specs.Written.{Written}
-use Rattle.laws.proofs.Written.{Upto, upto_none, upto_front, upto_all, after, whole}
+use Rattle.laws.proofs.Written.{Upto}
 use Rattle.bits.proofs.rows.turn_back.Given as goal
 
 -- total turned back by one, at the places before t

@@ -4,7 +4,6 @@ use mathlib.Core.List.{List}
 use Prim.Native.Nat.{ℕ, ◌+◌, ◌<◌}
 use native.Mathlib.Omega.{arith}
 use native.Mathlib.Nat.{add-zero}
-use borrow.Author.Rules.{rules}
 use lib.ListN.{length, get_or, set}
 use Rattle.laws.proofs.Written.{none, store}
 use Rattle.bits.specs.Sums.{differing, Added}

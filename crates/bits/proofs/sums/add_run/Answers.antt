@@ -1,15 +1,8 @@
 -- `add_run` meets its contract. The invariant: the first i bits are added. Assumes nothing.
-use mathlib.Core.Path.{◌≡◌, ap, ◌∙◌}
-use mathlib.Core.List.{List}
-use Prim.Native.Nat.{ℕ, ◌+◌, ◌-◌, ◌≤◌, ◌<◌}
 use native.Mathlib.Omega.{arith}
-use borrow.Author.Rules.{rules}
-use lib.ListN.{length, get_or, set}
-use Rattle.laws.specs.Written.{Written}
-use Rattle.laws.proofs.Written.{Upto, upto_none, upto_next, upto_all}
-use Rattle.bits.specs.Sums.{differing}
+use Rattle.laws.proofs.Written.{upto_none, upto_all}
 use Rattle.bits.proofs.sums.add_run.Goals as goal
-use Rattle.bits.proofs.sums.add_run.Invariants.{AddedUpto, turn}
+use Rattle.bits.proofs.sums.add_run.Invariants.{turn}
 
 pub loop-i-init : goal.loop-i-init
 loop-i-init c = (omega arith, upto_none)

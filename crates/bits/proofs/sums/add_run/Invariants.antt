@@ -3,10 +3,9 @@ use mathlib.Core.Path.{◌≡◌, ap, ◌∙◌}
 use mathlib.Core.List.{List}
 use Prim.Native.Nat.{ℕ, ◌+◌, ◌-◌, ◌≤◌, ◌<◌}
 use native.Mathlib.Omega.{arith}
-use borrow.Author.Rules.{rules}
 use lib.ListN.{length, get_or, set}
 use Rattle.laws.specs.Written.{Written}
-use Rattle.laws.proofs.Written.{Upto, upto_none, upto_next, upto_all}
+use Rattle.laws.proofs.Written.{Upto, upto_next}
 use Rattle.bits.specs.Sums.{differing}
 use Rattle.bits.proofs.sums.add_run.Given as goal
 

@@ -1,8 +1,6 @@
 -- `add_turned` meets its contract: the one bit, or the two runs. Assumes nothing.
 use mathlib.Core.Path.{◌∙◌}
 use Rattle.bits.proofs.Turned.{turned, one_turned}
-use native.Mathlib.Omega.{arith}
-use borrow.Author.Rules.{rules}
 use Rattle.bits.proofs.sums.add_turned.Goals as goal
 
 pub returns-then-z-eq1 : goal.returns-then-z-eq1

@@ -1,10 +1,9 @@
 -- `clear` meets its contract. Assumes nothing.
 use mathlib.Core.Path.{refl}
-use Prim.Native.Nat.{◌-◌, ◌≤◌, ◌<◌}
+use Prim.Native.Nat.{◌<◌}
 use native.Mathlib.Omega.{arith}
 use lib.ListN.{length}
-use Rattle.laws.specs.Written.{Written}
-use Rattle.laws.proofs.Written.{Upto, upto_none, upto_front, filled}
+use Rattle.laws.proofs.Written.{upto_none, upto_front, filled}
 use Rattle.bits.proofs.sums.clear.Goals as goal
 
 pub loop-i-init : goal.loop-i-init

@@ -1,5 +1,4 @@
 -- `clipped` meets its contract. Assumes nothing.
-use borrow.Author.Rules.{rules}
 use borrow.Author.Tests.{lt-ltb, le-ltb}
 use Rattle.bits.proofs.sums.clipped.Goals as goal
 

@@ -2,7 +2,6 @@
 use mathlib.Core.Path.{refl}
 use native.Mathlib.Omega.{arith}
 use Rattle.boundary.proofs.Fronts.{one_in}
-use borrow.Author.Rules.{rules}
 use Rattle.boundary.proofs.answers.counted.Goals as goal
 
 pub returns-in-Count : goal.returns-in-Count

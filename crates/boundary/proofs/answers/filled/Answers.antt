@@ -1,7 +1,6 @@
 -- `filled` meets its contract, by its cases. Assumes nothing.
 use mathlib.Core.Path.{refl}
 use Rattle.boundary.proofs.Fronts.{none_in}
-use borrow.Author.Rules.{rules}
 use Rattle.boundary.proofs.answers.filled.Goals as goal
 
 pub returns-in-Done : goal.returns-in-Done

@@ -1,7 +1,6 @@
 -- `granted` meets its contract, by its cases. Assumes nothing.
 use mathlib.Core.Path.{refl, ◌∙◌}
 use Rattle.boundary.proofs.Fronts.{none_in, decode_all}
-use borrow.Author.Rules.{rules}
 use Rattle.boundary.proofs.answers.granted.Goals as goal
 
 pub returns-in-Decode : goal.returns-in-Decode

@@ -2,7 +2,6 @@
 use mathlib.Core.Path.{refl}
 use native.Mathlib.Omega.{arith}
 use Rattle.boundary.proofs.Fronts.{two_in}
-use borrow.Author.Rules.{rules}
 use Rattle.boundary.proofs.answers.refuse.Goals as goal
 
 pub returns : goal.returns

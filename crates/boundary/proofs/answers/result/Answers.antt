@@ -3,7 +3,6 @@ use mathlib.Core.Path.{refl}
 use native.Mathlib.Omega.{arith}
 use Rattle.boundary.proofs.Fronts.{three_in}
 use Rattle.boundary.specs.Answers.{result_numbers}
-use borrow.Author.Rules.{rules}
 use Rattle.boundary.proofs.answers.result.Goals as goal
 
 pub returns-in-Result : goal.returns-in-Result

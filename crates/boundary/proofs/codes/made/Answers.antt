@@ -1,7 +1,6 @@
 -- `made` meets its contract, by its cases. Assumes nothing.
 use mathlib.Core.Path.{refl, ◌∙◌}
 use Rattle.boundary.proofs.Fronts.{none_in, code_all}
-use borrow.Author.Rules.{rules}
 use Rattle.boundary.proofs.codes.made.Goals as goal
 
 pub returns-in-Made : goal.returns-in-Made

@@ -1,12 +1,10 @@
 -- `put_rate` meets its contract. Assumes nothing.
 use mathlib.Core.Path.{sym, ◌∙◌}
-use borrow.Author.Tests.{not-true, not-false}
 use Rattle.ldpc.proofs.Refused.{made_passed, made_refused}
 use Rattle.refusals.proofs.Lengths.{length_passed, length_refused}
 use Rattle.boundary.proofs.Fronts.{single}
 use Rattle.boundary.proofs.Answered.{kept}
 use Rattle.boundary.specs.Answers.{put_told}
-use borrow.Author.Rules.{rules}
 use Rattle.boundary.proofs.codes.put_rate.Goals as goal
 
 pub returns-then-not-is_made : goal.returns-then-not-is_made

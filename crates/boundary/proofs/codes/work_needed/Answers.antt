@@ -1,10 +1,8 @@
 -- `work_needed` meets its contract. Assumes nothing.
 use mathlib.Core.Path.{sym, ◌∙◌}
-use borrow.Author.Tests.{not-true, not-false}
 use Rattle.ldpc.proofs.Refused.{made_passed, made_refused}
 use Rattle.ldpc.specs.Getters as getters
 use Rattle.boundary.specs.Answers.{work_told}
-use borrow.Author.Rules.{rules}
 use Rattle.boundary.proofs.codes.work_needed.Goals as goal
 
 pub returns-then-not-is_made : goal.returns-then-not-is_made

@@ -2,7 +2,6 @@
 use native.Mathlib.Omega.{arith}
 use Rattle.boundary.proofs.Fronts.{iterations_below}
 use Rattle.boundary.specs.Answers.{decode_in}
-use borrow.Author.Rules.{rules}
 use Rattle.boundary.proofs.records.decode_in.Goals as goal
 
 pub overflow_cast-result : goal.overflow_cast-result

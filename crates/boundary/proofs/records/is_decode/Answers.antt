@@ -1,7 +1,6 @@
 -- `is_decode` meets its contract. Assumes nothing.
 use mathlib.Core.Path.{refl}
 use Rattle.boundary.specs.Answers.{is_decode}
-use borrow.Author.Rules.{rules}
 use Rattle.boundary.proofs.records.is_decode.Goals as goal
 
 pub returns : goal.returns

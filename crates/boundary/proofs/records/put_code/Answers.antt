@@ -3,7 +3,6 @@ use native.Mathlib.Omega.{arith}
 use lib.ListN.{length-set}
 use Rattle.boundary.proofs.Fronts.{six_in}
 use Rattle.boundary.specs.Answers.{code_numbers}
-use borrow.Author.Rules.{rules}
 use Rattle.boundary.proofs.records.put_code.Goals as goal
 
 pub bounds-fields-1 : goal.bounds-fields-1

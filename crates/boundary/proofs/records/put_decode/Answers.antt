@@ -1,6 +1,5 @@
 -- `put_decode` meets its contract, store by store. Assumes nothing.
 use Rattle.boundary.proofs.Fronts.{decode_in_lem}
-use borrow.Author.Rules.{rules}
 use Rattle.boundary.proofs.records.put_decode.Goals as goal
 
 pub returns : goal.returns

@@ -1,6 +1,5 @@
 -- `check_block` meets its contract. Assumes nothing.
 use native.Mathlib.Omega.{arith}
-use borrow.Author.Rules.{rules}
 use Rattle.checks.proofs.block.check_block.Goals as goal
 
 pub gather-l-requires : goal.gather-l-requires

@@ -1,12 +1,9 @@
 -- `gather` meets its contract. The invariant: the first i base edges are gathered. Assumes nothing.
-use mathlib.Core.Path.{◌≡◌, ap, ◌∙◌}
-use Prim.Native.Nat.{◌-◌, ◌≤◌}
+use mathlib.Core.Path.{ap, ◌∙◌}
 use native.Mathlib.Omega.{arith}
-use borrow.Author.Rules.{rules}
-use lib.ListN.{length, take}
 use lib.Seq.{take_all}
 use Rattle.messages.specs.Memory.{reading}
-use Rattle.slots.specs.Row.{gathered_four, AllOrdered}
+use Rattle.slots.specs.Row.{gathered_four}
 use Rattle.checks.proofs.Four.{fresh_gathered, fresh_ordered, four_more}
 use Rattle.checks.proofs.block.gather.Goals as goal
 

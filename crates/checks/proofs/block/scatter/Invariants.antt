@@ -1,11 +1,7 @@
 -- `scatter` meets its contract. The invariant: the slots of the first i base edges are written. Assumes nothing.
-use mathlib.Core.Path.{◌≡◌, subst}
-use Prim.Native.Nat.{ℕ, ◌-◌, ◌≤◌}
-use native.Mathlib.Omega.{arith}
-use borrow.Author.Rules.{rules}
+use Prim.Native.Nat.{◌-◌, ◌≤◌}
 use lib.ListN.{length}
-use Rattle.laws.proofs.Written.{none}
-use Rattle.checks.proofs.Sent.{SentUpto, sent_one}
+use Rattle.checks.proofs.Sent.{SentUpto}
 use Rattle.checks.proofs.block.scatter.Given as goal
 
 abbrev pub invariant-loop-i : goal.invariant-loop-i

@@ -1,7 +1,6 @@
 -- `load` meets its contract. Assumes nothing.
 use native.Mathlib.Nat.{add-zero}
 use Rattle.laws.specs.Written.{tabulate}
-use borrow.Author.Rules.{rules}
 use Rattle.checks.proofs.blocks.load.Goals as goal
 
 pub returns : goal.returns

@@ -1,6 +1,5 @@
 -- `message` meets its contract. Assumes nothing.
 use Rattle.laws.specs.Written.{tabulate}
-use borrow.Author.Rules.{rules}
 use Rattle.checks.proofs.blocks.message.Goals as goal
 
 pub returns : goal.returns

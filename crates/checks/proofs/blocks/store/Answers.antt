@@ -3,7 +3,6 @@ use native.Mathlib.Omega.{arith}
 use lib.Ieee.{nan}
 use lib.ListN.{get_or, length-set}
 use Rattle.checks.proofs.Four.{four_stored}
-use borrow.Author.Rules.{rules}
 use Rattle.checks.proofs.blocks.store.Goals as goal
 
 pub bounds-work-at-2 : goal.bounds-work-at-2

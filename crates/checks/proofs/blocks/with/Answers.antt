@@ -2,7 +2,6 @@
 use Rattle.laws.specs.Written.{tabulate}
 use Rattle.checks.proofs.Four.{four_ordered}
 use native.Mathlib.Omega.{arith}
-use borrow.Author.Rules.{rules}
 use Rattle.checks.proofs.blocks.with.Goals as goal
 
 pub with-requires : goal.with-requires

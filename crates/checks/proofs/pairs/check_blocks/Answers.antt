@@ -7,7 +7,6 @@ use Rattle.laws.specs.Written.{Written}
 use Rattle.messages.specs.Memory.{reading}
 use Rattle.messages.specs.Iteration.{answer}
 use Rattle.slots.specs.Row.{Pairs}
-use borrow.Author.Rules.{rules}
 use Rattle.checks.proofs.pairs.check_blocks.Goals as goal
 
 pub returns-then-t-u : goal.returns-then-t-u

@@ -1,6 +1,5 @@
 -- `check_pair` meets its contract. Assumes nothing.
 use native.Mathlib.Omega.{arith}
-use borrow.Author.Rules.{rules}
 use Rattle.checks.proofs.pairs.check_pair.Goals as goal
 
 pub gather-p-requires : goal.gather-p-requires

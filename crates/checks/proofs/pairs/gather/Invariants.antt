@@ -1,13 +1,9 @@
 -- `gather` meets its contract. The invariant: the first i base edges are gathered, at both blocks. Assumes nothing.
-use mathlib.Core.Path.{◌≡◌, ap, ◌∙◌}
+use mathlib.Core.Path.{◌≡◌}
 use Prim.Native.Nat.{◌-◌, ◌≤◌}
-use native.Mathlib.Omega.{arith}
-use borrow.Author.Rules.{rules}
 use lib.ListN.{length, take}
-use lib.Seq.{take_all}
 use Rattle.messages.specs.Memory.{reading}
 use Rattle.slots.specs.Row.{gathered_four, AllOrdered}
-use Rattle.checks.proofs.Four.{fresh_gathered, fresh_ordered, four_more}
 use Rattle.checks.proofs.pairs.gather.Given as goal
 
 abbrev pub invariant-loop-i : goal.invariant-loop-i

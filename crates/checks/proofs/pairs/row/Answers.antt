@@ -1,15 +1,8 @@
 -- `row` meets its contract. The invariant: the checks at the offsets below t are done. Assumes nothing.
-use Prim.Native.Nat.{◌%◌, ◌-◌, ◌≤◌, ◌<◌}
+use Prim.Native.Nat.{◌<◌}
 use native.Mathlib.Omega.{arith}
 use native.Mathlib.Nat.{mod-lt}
-use borrow.Author.Rules.{rules}
-use lib.ListN.{length}
-use lib.Ieee.{nan}
-use Rattle.laws.proofs.Written.{Upto, upto_none, upto_all}
-use Rattle.laws.specs.Written.{Written}
-use Rattle.messages.specs.Memory.{reading}
-use Rattle.messages.specs.Iteration.{answer}
-use Rattle.slots.specs.Row.{Of}
+use Rattle.laws.proofs.Written.{upto_none, upto_all}
 use Rattle.checks.proofs.Sent.{pair_more}
 use Rattle.checks.proofs.pairs.row.Goals as goal
 

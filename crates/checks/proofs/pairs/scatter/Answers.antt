@@ -1,8 +1,7 @@
 -- `scatter` meets its contract. The invariant: the slots of the first i base edges are written, at both blocks. Assumes nothing.
 use mathlib.Core.Path.{◌≡◌, subst}
-use Prim.Native.Nat.{ℕ, ◌-◌, ◌≤◌}
+use Prim.Native.Nat.{ℕ}
 use native.Mathlib.Omega.{arith}
-use borrow.Author.Rules.{rules}
 use lib.ListN.{length}
 use Rattle.laws.proofs.Written.{none}
 use Rattle.checks.proofs.Sent.{SentUpto, sent_more}

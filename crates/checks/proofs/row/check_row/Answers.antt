@@ -7,7 +7,6 @@ use Rattle.laws.specs.Written.{Written}
 use Rattle.messages.specs.Memory.{reading}
 use Rattle.messages.specs.Iteration.{answer}
 use Rattle.slots.specs.Row.{Of, Within}
-use borrow.Author.Rules.{rules}
 use Rattle.checks.proofs.row.check_row.Goals as goal
 
 -- where the lift is 1, what holds of it holds of the constant

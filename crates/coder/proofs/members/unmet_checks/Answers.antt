@@ -1,6 +1,5 @@
 -- `unmet_checks` meets its contract: no code has more than 12,636 checks. Assumes nothing.
 use native.Mathlib.Nat.{mul-le-mul}
-use borrow.Author.Rules.{rules}
 use Rattle.ldpc.specs.Code.{checks_of}
 use Rattle.ldpc.proofs.Made.{sized}
 use Rattle.coder.proofs.members.unmet_checks.Goals as goal

@@ -1,13 +1,9 @@
 -- `met_row` meets its contract. The invariant: the checks at the offsets below t are met. Assumes nothing.
 use mathlib.Core.Path.{◌≡◌, refl, sym, ap, ◌∙◌}
-use mathlib.Core.Bool.{Bool, true, not}
-use mathlib.Core.List.{List}
-use Prim.Native.Nat.{ℕ, ◌-◌, ◌≤◌}
+use mathlib.Core.Bool.{not}
 use native.Mathlib.Omega.{arith}
-use lib.Ieee.{Float}
 use Rattle.laws.proofs.Range.{every_more, every_fails}
 use Rattle.laws.specs.Range.{every}
-use Rattle.convergence.specs.Decided.{odd_of}
 use Rattle.convergence.proofs.row.met_row.Goals as goal
 use Rattle.convergence.proofs.row.met_row.Invariants.{met}
 

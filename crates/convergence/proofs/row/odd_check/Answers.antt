@@ -1,18 +1,10 @@
 -- `odd_check` meets its contract. The invariant: the decisions of the first i base edges are added. Assumes nothing.
-use mathlib.Core.List.{List}
-use mathlib.Core.Bool.{Bool, false, xor}
-use mathlib.Core.Path.{◌≡◌, refl, sym, ap, subst, ◌∙◌}
-use Prim.Native.Nat.{ℕ, ◌+◌, ◌*◌, ◌%◌, ◌-◌, ◌≤◌, ◌<◌}
+use mathlib.Core.Path.{refl, sym, ap, subst, ◌∙◌}
 use native.Mathlib.Omega.{arith}
-use borrow.Author.Rules.{rules}
-use lib.Ieee.{Float}
-use lib.ListN.{length, take, get_or}
+use lib.ListN.{length}
 use lib.Seq.{take_all}
 use Rattle.laws.proofs.Parity.{unlike_xor}
-use Rattle.laws.specs.Floats.{negative}
-use Rattle.laws.proofs.Folded.{folded_more}
 use Rattle.laws.specs.Range.{folded}
-use Rattle.messages.specs.Memory.{reading}
 use Rattle.convergence.specs.Decided.{odd_of, Joined}
 use Rattle.convergence.proofs.row.odd_check.Goals as goal
 use Rattle.convergence.proofs.row.odd_check.Invariants.{turn_i}

@@ -1,19 +1,14 @@
 -- `odd_check` meets its contract. The invariant: the decisions of the first i base edges are added. Assumes nothing.
 use mathlib.Core.List.{List}
 use mathlib.Core.Bool.{Bool, false, xor}
-use mathlib.Core.Path.{◌≡◌, refl, sym, ap, subst, ◌∙◌}
+use mathlib.Core.Path.{◌≡◌, sym}
 use Prim.Native.Nat.{ℕ, ◌+◌, ◌*◌, ◌%◌, ◌-◌, ◌≤◌, ◌<◌}
-use native.Mathlib.Omega.{arith}
-use borrow.Author.Rules.{rules}
 use lib.Ieee.{Float}
 use lib.ListN.{length, take, get_or}
-use lib.Seq.{take_all}
-use Rattle.laws.proofs.Parity.{unlike_xor}
 use Rattle.laws.specs.Floats.{negative}
 use Rattle.laws.proofs.Folded.{folded_more}
-use Rattle.laws.specs.Range.{folded}
 use Rattle.messages.specs.Memory.{reading}
-use Rattle.convergence.specs.Decided.{odd_of, Joined}
+use Rattle.convergence.specs.Decided.{odd_of}
 use Rattle.convergence.proofs.row.odd_check.Given as goal
 
 pub turn_i : (work : List Float) (tot z t : ℕ) (column turn edges : List ℕ) (i b : ℕ) (odd more : Bool) → i < length edges → b ≡ get_or edges i 0

@@ -1,6 +1,5 @@
 -- `decode` meets its contract: by the refusal, or by the code, that Choice answers. Assumes nothing.
 use mathlib.Core.Path.{◌∙◌}
-use borrow.Author.Rules.{rules}
 use Rattle.ldpc.proofs.Theorems.{given_made}
 use Rattle.decoder.proofs.Called.{by_code, chosen_code, by_refusal}
 use Rattle.decoder.proofs.call.decode.Goals as goal

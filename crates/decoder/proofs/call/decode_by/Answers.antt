@@ -1,7 +1,6 @@
 -- `decode_by` meets its contract: each way out by the tests before it. Assumes nothing.
 use mathlib.Core.Path.{sym, ap, ◌∙◌}
 use native.Mathlib.Omega.{arith}
-use borrow.Author.Rules.{rules}
 use lib.ListN.{length}
 use Rattle.refusals.proofs.Lengths.{length_passed, length_refused}
 use Rattle.channel.proofs.Started.{ready}

@@ -1,6 +1,5 @@
 -- `hand_out` meets its contract. Assumes nothing.
 use mathlib.Core.Path.{sym, ap}
-use borrow.Author.Rules.{rules}
 use Rattle.decoder.specs.Calls.{handed_out}
 use Rattle.decoder.proofs.call.hand_out.Goals as goal
 

@@ -3,7 +3,6 @@ use mathlib.Core.Path.{sym, ◌∙◌}
 use Rattle.refusals.proofs.Lengths.{length_passed, length_refused}
 use Rattle.boundary.proofs.Answered.{no_answer, has_answer, left_answer, number_of, kept_by, pair_of, number_as, by_as, answer_as}
 use Rattle.boundary.specs.Calls.{code_at}
-use borrow.Author.Rules.{rules}
 use Rattle.ffi_code.proofs.code.fuyegbo_code.Goals as goal
 
 pub returns-then-answer-ne3 : goal.returns-then-answer-ne3

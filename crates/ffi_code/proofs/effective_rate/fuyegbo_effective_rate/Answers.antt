@@ -7,7 +7,6 @@ use Rattle.refusals.specs.Told.{after}
 use Rattle.ldpc.specs.Getters.{rate_told}
 use Rattle.boundary.specs.Answers.{put_told}
 use Rattle.boundary.specs.Calls.{rate_at}
-use borrow.Author.Rules.{rules}
 use Rattle.ffi_code.proofs.effective_rate.fuyegbo_effective_rate.Goals as goal
 
 pub returns-then-answer-ne3 : goal.returns-then-answer-ne3

@@ -3,7 +3,6 @@ use mathlib.Core.Path.{sym, ap, ◌∙◌}
 use Rattle.boundary.proofs.Answered.{no_answer, has_answer, left_answer, no_code, has_code, number_of, pair_of, number_as, answer_as}
 use Rattle.boundary.specs.Answers.{work_told}
 use Rattle.boundary.specs.Calls.{work_at}
-use borrow.Author.Rules.{rules}
 use Rattle.ffi_code.proofs.work_needed.fuyegbo_work_needed.Goals as goal
 
 pub returns-then-answer-ne3 : goal.returns-then-answer-ne3

@@ -4,7 +4,6 @@ use Rattle.boundary.proofs.Answered.{no_answer, has_answer, left_answer, no_code
 use lib.ListN.{length}
 use Rattle.coder.specs.Calls.{listed, list_written}
 use Rattle.boundary.specs.Calls.{members_at}
-use borrow.Author.Rules.{rules}
 use Rattle.ffi_coder.proofs.check_members.fuyegbo_check_members.Goals as goal
 
 pub returns-then-answer-ne3 : goal.returns-then-answer-ne3

@@ -3,7 +3,6 @@ use mathlib.Core.Path.{sym, ap, ◌∙◌}
 use Rattle.boundary.proofs.Answered.{no_answer, has_answer, left_answer, no_code, has_code, number_of, pair_of, number_as, answer_as}
 use Rattle.coder.specs.Calls.{unsatisfied_told}
 use Rattle.boundary.specs.Calls.{unsatisfied_at}
-use borrow.Author.Rules.{rules}
 use Rattle.ffi_coder.proofs.unsatisfied.fuyegbo_unsatisfied.Goals as goal
 
 pub returns-then-answer-ne3 : goal.returns-then-answer-ne3

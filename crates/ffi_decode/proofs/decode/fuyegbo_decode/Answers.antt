@@ -2,7 +2,6 @@
 use mathlib.Core.Path.{sym, ◌∙◌}
 use Rattle.boundary.proofs.Answered.{no_answer, has_answer, if_answer_lem, unless_answer, left_answer, number_of, number_as, answer_as}
 use Rattle.boundary.specs.Calls.{decode_at, decoded_memory, decoded_word}
-use borrow.Author.Rules.{rules}
 use Rattle.ffi_decode.proofs.decode.fuyegbo_decode.Goals as goal
 
 pub returns-then-answer-ne3 : goal.returns-then-answer-ne3

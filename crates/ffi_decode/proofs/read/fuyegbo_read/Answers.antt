@@ -1,11 +1,9 @@
 -- `fuyegbo_read` meets its contract. Assumes nothing.
 use mathlib.Core.Path.{sym, ap, ◌∙◌}
-use borrow.Author.Tests.{not-true, not-false}
 use Rattle.boundary.proofs.Answered.{no_answer, has_answer, left_answer, no_decode, not_decode, has_decode, number_of, kept, pair_of, number_as, after_as, answer_as}
 use lib.ListN.{length}
 use Rattle.decoder.specs.Calls.{read_told, read_written}
 use Rattle.boundary.specs.Calls.{read_at}
-use borrow.Author.Rules.{rules}
 use Rattle.ffi_decode.proofs.read.fuyegbo_read.Goals as goal
 
 pub returns-then-answer-ne3 : goal.returns-then-answer-ne3

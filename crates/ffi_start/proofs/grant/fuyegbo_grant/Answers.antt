@@ -1,10 +1,8 @@
 -- `fuyegbo_grant` meets its contract. Assumes nothing.
 use mathlib.Core.Path.{sym, ap, ◌∙◌}
-use borrow.Author.Tests.{not-true, not-false}
 use Rattle.boundary.proofs.Answered.{no_answer, has_answer, left_answer, no_decode, not_decode, has_decode, number_of, kept, kept_by, pair_of, number_as, after_as, by_as, answer_as}
 use Rattle.decoder.specs.Calls.{grant_told, grant_written}
 use Rattle.boundary.specs.Calls.{grant_at, granted_memory}
-use borrow.Author.Rules.{rules}
 use Rattle.ffi_start.proofs.grant.fuyegbo_grant.Goals as goal
 
 pub returns-then-answer-ne3 : goal.returns-then-answer-ne3

@@ -5,7 +5,6 @@ use Rattle.boundary.proofs.Answered.{no_answer, has_answer, left_answer, no_code
 use lib.ListN.{length}
 use Rattle.decoder.specs.Calls.{start_told, start_written}
 use Rattle.boundary.specs.Calls.{start_at}
-use borrow.Author.Rules.{rules}
 use Rattle.ffi_start.proofs.start.fuyegbo_start.Goals as goal
 
 pub returns-then-answer-ne3 : goal.returns-then-answer-ne3

@@ -1,6 +1,5 @@
 -- `lift_for` meets its contract. Assumes nothing.
 use native.Mathlib.Omega.{arith}
-use borrow.Author.Rules.{rules}
 use Rattle.ldpc.specs.Choice.{lift_of}
 use Rattle.ldpc.proofs.choice.lift_for.Goals as goal
 

@@ -1,7 +1,6 @@
 -- `Refusal::numbers` meets its contract: in each arm self is that case, at which `numbers_of` computes. Assumes nothing.
 use mathlib.Core.Path.{sym, ap}
 use Rattle.refusals.specs.Told.{numbers_of}
-use borrow.Author.Rules.{rules}
 use Rattle.refusals.proofs.Refusal.numbers.Goals as goal
 
 pub returns-in-NoFamily : goal.returns-in-NoFamily

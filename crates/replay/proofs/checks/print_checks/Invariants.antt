@@ -1,6 +1,5 @@
 -- `print_checks` meets its contract. Assumes nothing.
 use Prim.Native.Nat.{◌≤◌, ◌-◌}
-use borrow.Author.Rules.{rules}
 use Rattle.replay.proofs.checks.print_checks.Given as goal
 
 abbrev pub invariant-loop-check : goal.invariant-loop-check

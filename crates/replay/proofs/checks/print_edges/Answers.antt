@@ -1,8 +1,5 @@
 -- `print_edges` meets its contract. Assumes nothing.
-use mathlib.Core.Logic.{⊎_elim}
-use Prim.Native.Nat.{◌≤◌, ◌-◌}
 use native.Mathlib.Omega.{arith}
-use borrow.Author.Rules.{rules}
 use Rattle.replay.proofs.checks.print_edges.Goals as goal
 use Rattle.replay.proofs.checks.print_edges.Goals.{in-Edge, in_default}
 

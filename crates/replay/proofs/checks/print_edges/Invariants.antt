@@ -1,8 +1,5 @@
 -- `print_edges` meets its contract. Assumes nothing.
-use mathlib.Core.Logic.{⊎_elim}
 use Prim.Native.Nat.{◌≤◌, ◌-◌}
-use native.Mathlib.Omega.{arith}
-use borrow.Author.Rules.{rules}
 use Rattle.replay.proofs.checks.print_edges.Given as goal
 
 abbrev pub invariant-loop-b : goal.invariant-loop-b

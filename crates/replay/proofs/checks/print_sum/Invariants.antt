@@ -1,6 +1,5 @@
 -- `print_sum` meets its contract. Assumes nothing.
 use Prim.Native.Nat.{◌≤◌, ◌-◌}
-use borrow.Author.Rules.{rules}
 use Rattle.replay.proofs.checks.print_sum.Given as goal
 
 abbrev pub invariant-loop-i : goal.invariant-loop-i

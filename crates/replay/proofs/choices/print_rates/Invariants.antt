@@ -1,6 +1,5 @@
 -- `print_rates` meets its contract. Assumes nothing.
 use Prim.Native.Nat.{◌≤◌, ◌-◌}
-use borrow.Author.Rules.{rules}
 use Rattle.replay.proofs.choices.print_rates.Given as goal
 
 abbrev pub invariant-loop-rate : goal.invariant-loop-rate

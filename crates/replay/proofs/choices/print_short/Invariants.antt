@@ -1,6 +1,5 @@
 -- `print_short` meets its contract. Assumes nothing.
 use Prim.Native.Nat.{◌≤◌, ◌-◌}
-use borrow.Author.Rules.{rules}
 use Rattle.replay.proofs.choices.print_short.Given as goal
 
 abbrev pub invariant-loop-n_tx : goal.invariant-loop-n_tx

@@ -1,6 +1,4 @@
 -- `flip` meets its contract. Assumes nothing.
-use mathlib.Core.Logic.{⊎_elim}
-use borrow.Author.Rules.{rules}
 use borrow.Author.Tests.{lt-ltb, le-ltb, eq-eqb, ne_eqb}
 use Rattle.replay.specs.Inputs.{flipped}
 use Rattle.replay.proofs.inputs.flip.Goals as goal

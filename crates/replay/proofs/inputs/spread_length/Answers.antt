@@ -1,5 +1,4 @@
 -- `spread_length` meets its contract. Assumes nothing.
-use borrow.Author.Rules.{rules}
 use borrow.Author.Tests.{lt-ltb, le-ltb}
 use Rattle.replay.specs.Inputs.{spread_length}
 use Rattle.replay.proofs.inputs.spread_length.Goals as goal

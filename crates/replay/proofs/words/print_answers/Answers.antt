@@ -1,5 +1,4 @@
 -- `print_answers` meets its contract. Assumes nothing.
-use borrow.Author.Rules.{rules}
 use Rattle.replay.proofs.words.print_answers.Goals as goal
 
 pub returns-in_err-first : goal.returns-in_err-first

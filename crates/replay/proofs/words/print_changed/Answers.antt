@@ -1,5 +1,4 @@
 -- `print_changed` meets its contract. Assumes nothing.
-use borrow.Author.Rules.{rules}
 use Rattle.replay.specs.Inputs.{changed}
 use Rattle.replay.proofs.words.print_changed.Goals as goal
 

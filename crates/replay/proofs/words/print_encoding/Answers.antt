@@ -1,7 +1,6 @@
 -- `print_encoding` meets its contract. Assumes nothing.
 use mathlib.Core.Path.{sym}
 use native.Mathlib.Omega.{arith}
-use borrow.Author.Rules.{rules}
 use lib.ListN.{replicate}
 use lib.Seq.{length-take-le}
 use Rattle.replay.proofs.words.print_encoding.Goals as goal

@@ -1,6 +1,5 @@
 -- `print_front` meets its contract. Assumes nothing.
 use mathlib.Core.Path.{sym}
-use borrow.Author.Rules.{rules}
 use lib.Seq.{length-take-le}
 use Rattle.replay.proofs.words.print_front.Goals as goal
 

@@ -3,7 +3,6 @@ use mathlib.Core.Path.{◌≡◌, sym}
 use mathlib.Core.List.{◌++◌}
 use Prim.Native.Nat.{ℕ}
 use native.Mathlib.Omega.{arith}
-use borrow.Author.Rules.{rules}
 use lib.ListN.{length, drop, replicate}
 use lib.Seq.{length-take-le, length_front}
 use Rattle.replay.proofs.words.print_unsatisfied.Goals as goal

@@ -1,5 +1,4 @@
 -- `rule::Least::message` meets its contract. Assumes nothing.
-use borrow.Author.Rules.{rules}
 use Rattle.rule.specs.Rule.{answered}
 use Rattle.rule.proofs.Least.message.Goals as goal
 

@@ -3,7 +3,6 @@ use mathlib.Core.Path.{ap, ◌∙◌}
 use lib.Ieee.{binary32, mul}
 use Rattle.laws.specs.Floats.{signed}
 use Rattle.laws.proofs.Parity.{unlike_xor}
-use borrow.Author.Rules.{rules}
 use Rattle.rule.proofs.Least.weight.Goals as goal
 
 pub returns : goal.returns

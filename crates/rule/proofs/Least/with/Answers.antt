@@ -1,6 +1,5 @@
 -- `rule::Least::with` meets its contract. Assumes nothing.
 use mathlib.Core.Path.{refl}
-use borrow.Author.Rules.{rules}
 use Rattle.laws.specs.Floats.{magnitude}
 use Rattle.rule.specs.Rule.{taken}
 use Rattle.rule.proofs.Ordered.{second, taken_ordered}

@@ -1,16 +1,15 @@
 -- `bit_send` meets its contract. The invariant: the slots of the first i base edges are written. Assumes nothing.
-use mathlib.Core.Path.{◌≡◌, sym, ap, ◌∙◌, subst}
+use mathlib.Core.Path.{◌≡◌, sym, ap, ◌∙◌}
 use mathlib.Core.List.{List}
 use Prim.Native.Nat.{ℕ, ◌+◌, ◌-◌, ◌≤◌, ◌<◌}
 use native.Mathlib.Decide.{ℕ_discrete}
 use native.Mathlib.Omega.{arith}
-use borrow.Author.Rules.{rules}
 use lib.ListN.{length, get_or, set}
 use lib.Ieee.{Float, nan, sub, binary32}
 use Rattle.laws.specs.Written.{Written}
-use Rattle.laws.proofs.Written.{none, store}
+use Rattle.laws.proofs.Written.{store}
 use Rattle.messages.specs.Memory.{reading}
-use Rattle.totals.specs.Joined.{joined_slot, Joins, Fits, AllFit}
+use Rattle.totals.specs.Joined.{joined_slot, Joins, AllFit}
 use Rattle.totals.proofs.OneBit.{joined_lt}
 use Rattle.totals.proofs.bit.bit_send.Given as goal
 

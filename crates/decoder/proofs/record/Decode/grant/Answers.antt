@@ -3,9 +3,7 @@ use mathlib.Core.Path.{◌≡◌, sym, ap, ◌∙◌}
 use mathlib.Core.Bool.{true}
 use Prim.Native.Nat.{◌+◌}
 use native.Mathlib.Omega.{arith}
-use borrow.Author.Rules.{rules}
 use lib.ListN.{length}
-use borrow.Author.Tests.{not-true, not-false}
 use Rattle.refusals.specs.Told.{gave}
 use Rattle.decoder.proofs.Refused.{work_passed, work_refused, sum_passed, sum_refused}
 use Rattle.ldpc.proofs.Refused.{made_passed, made_refused}

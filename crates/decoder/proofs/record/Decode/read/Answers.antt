@@ -2,9 +2,7 @@
 use mathlib.Core.Path.{◌≡◌, sym, ap, ◌∙◌}
 use mathlib.Core.Bool.{true}
 use native.Mathlib.Omega.{arith}
-use borrow.Author.Rules.{rules}
 use lib.ListN.{length}
-use borrow.Author.Tests.{not-true, not-false}
 use Rattle.ldpc.specs.Choice.{made}
 use Rattle.channel.proofs.Started.{ready}
 use Rattle.refusals.proofs.Lengths.{length_passed, length_refused}

@@ -1,7 +1,5 @@
 -- `Code::base_shape` meets its contract. Assumes nothing.
 use mathlib.Core.Path.{sym, ◌∙◌}
-use borrow.Author.Rules.{rules}
-use borrow.Author.Tests.{not-true, not-false}
 use Rattle.tables.specs.Graph.{graph_of}
 use Rattle.ldpc.specs.Code.{code_graph}
 use Rattle.ldpc.specs.Getters.{shape_told}

@@ -2,8 +2,6 @@
 use mathlib.Core.Path.{◌≡◌, sym, ◌∙◌}
 use mathlib.Core.Bool.{true}
 use native.Mathlib.Omega.{arith}
-use borrow.Author.Rules.{rules}
-use borrow.Author.Tests.{not-true, not-false}
 use Rattle.tables.specs.Graph.{graph_of}
 use Rattle.ldpc.specs.Choice.{made}
 use Rattle.ldpc.specs.Code.{code_graph, checks_of}

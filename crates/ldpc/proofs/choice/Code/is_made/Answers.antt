@@ -1,6 +1,5 @@
 -- `Code::is_made` meets its contract. Assumes nothing.
 use mathlib.Core.Path.{sym, ap, ◌∙◌}
-use borrow.Author.Rules.{rules}
 use Rattle.ldpc.specs.Choice.{told, is_given, made}
 use Rattle.ldpc.proofs.choice.Code.is_made.Goals as goal
 

@@ -1,6 +1,5 @@
 -- `Code::new` meets its contract: each family is taken or passed over as the definition has it. Assumes nothing.
 use mathlib.Core.Path.{sym, ap, ◌∙◌}
-use borrow.Author.Rules.{rules}
 use Rattle.refusals.specs.Told.{refused}
 use Rattle.ldpc.specs.Choice.{tried_from, told}
 use Rattle.ldpc.proofs.Chosen.{chosen_long, chosen_short, tried_gave, tried_refused}

@@ -1,0 +1,27 @@
+-- `fuyegbo_build` meets its contract. Assumes nothing.
+use mathlib.Core.Path.{sym, ◌∙◌}
+use Rattle.boundary.proofs.Answered.{no_answer, has_answer, left_answer, number_of, kept, number_as, after_as, answer_as}
+use Rattle.graph.specs.Calls.{rows_built, shifts_built}
+use borrow.Author.Rules.{rules}
+use Rattle.ffi_design.proofs.build.fuyegbo_build.Goals as goal
+
+pub returns-then-answer-ne3 : goal.returns-then-answer-ne3
+returns-then-answer-ne3 c =
+    let e = no_answer c.args.answer.now _ c.if-answer-ne3.true in record {
+      value = number_of e;
+      rows_after = kept e _ _;
+      shifts_after = kept e _ _;
+      answer_after = sym (left_answer _ _ _ c.if-answer-ne3.true);
+    }
+
+pub returns : goal.returns
+unfolding rows_built shifts_built
+returns c =
+    let h = c.if-answer-ne3.false in
+    let told = has_answer c.args.answer.now _ h in
+    let e = told ∙ sym c.build.ensures.result_value in record {
+      value = c.filled.ensures.value ∙ number_as e;
+      rows_after = c.build.ensures.rows_after ∙ after_as told _ _;
+      shifts_after = c.build.ensures.shifts_after ∙ after_as told _ _;
+      answer_after = c.filled.ensures.answer_after ∙ answer_as e _ _ h;
+    }
