@@ -2,7 +2,6 @@
 use mathlib.Core.Path.{sym, ◌∙◌}
 use Rattle.boundary.proofs.Answered.{no_answer, has_answer, left_answer, number_of, kept, number_as, after_as, answer_as}
 use Rattle.graph.specs.Calls.{rows_built, shifts_built}
-use borrow.Author.Rules.{rules}
 use Rattle.ffi_design.proofs.build.fuyegbo_build.Goals as goal
 
 pub returns-then-answer-ne3 : goal.returns-then-answer-ne3

@@ -1,7 +1,6 @@
 -- `fuyegbo_four_cycles` meets its contract. Assumes nothing.
 use mathlib.Core.Path.{sym, ◌∙◌}
 use Rattle.boundary.proofs.Answered.{no_answer, has_answer, left_answer, number_of, number_as, answer_as}
-use borrow.Author.Rules.{rules}
 use Rattle.ffi_design.proofs.four_cycles.fuyegbo_four_cycles.Goals as goal
 
 pub returns-then-answer-ne3 : goal.returns-then-answer-ne3

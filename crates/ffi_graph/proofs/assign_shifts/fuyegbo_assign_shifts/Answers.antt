@@ -2,7 +2,6 @@
 use mathlib.Core.Path.{sym, ◌∙◌}
 use Rattle.boundary.proofs.Answered.{no_answer, has_answer, left_answer, number_of, kept, number_as, after_as, answer_as}
 use Rattle.graph.specs.Calls.{shifts_written}
-use borrow.Author.Rules.{rules}
 use Rattle.ffi_graph.proofs.assign_shifts.fuyegbo_assign_shifts.Goals as goal
 
 pub returns-then-answer-ne3 : goal.returns-then-answer-ne3
