@@ -23,7 +23,7 @@ loop-t-preserved c =
 
 pub shape_of-weights : goal.shape_of-weights
 shape_of-weights c =
-    length-set c.loop-t.weights 1022 1000 ∙ c.loop-t.invariant.1.long
+    length-set c.loop-t.weights 1022 _ ∙ c.loop-t.invariant.1.long
     ∙ sym (ap length c.requires ∙ length-replicate {A = ℕ} 2045 0)
 
 pub returns : goal.returns
