@@ -14,7 +14,7 @@ use Rattle.rule.specs.Rule.{started, taken}
 use Rattle.messages.specs.Memory.{reading}
 use Rattle.messages.specs.Iteration.{gathered}
 use Rattle.slots.specs.Row.{past, gathered_four}
-use Rattle.checks.specs.declared.lanes.Four.{Four}
+use Rattle.checks.specs.declared.vectors.Four.{Four}
 use Rattle.checks.specs.Lanes.{Shows}
 
 -- checks that have gathered nothing

@@ -7,8 +7,8 @@ ghost use Rattle.messages.specs.Iteration.{answer};
 ghost use Rattle.slots.specs.Row.{Within, gathered_four, Pairs};
 ghost use Rattle.checks.specs.Lanes.{Shows, Loads};
 
-use crate::lanes;
-use crate::lanes::Four;
+use crate::vectors;
+use crate::vectors::Four;
 use slots::{place, slot};
 
 // What the messages of some base edges come to, at the four offsets from t on; the messages stand from `from` on. At a lift below 4
@@ -17,12 +17,12 @@ pub fn gather(work: &[f32], from: usize, z: usize, t: usize, edges: &[u8]) -> Fo
     requires { (t < z) × (z ≤ 324) × Loads z t from (length work.now) edges.now }
     ensures { Shows result (gathered_four (reading work.now from) z t edges.now) }
 {
-    let mut l = lanes::fresh();
+    let mut l = vectors::fresh();
     let mut i = 0;
     while i < edges.len() {
         let b = edges[i];
         let m = lanes::load(work, from + slot(b, z, t));
-        l = lanes::with(l, m, place(b));
+        l = vectors::with(l, m, place(b));
         i += 1;
     }
     l
@@ -47,7 +47,7 @@ fn scatter(
         let b = edges[i];
         let s = slot(b, z, t);
         let m = lanes::load(work, from + s);
-        lanes::store(work, to + s, lanes::message(l, factor, m, place(b)));
+        lanes::store(work, to + s, vectors::message(l, factor, m, place(b)));
         i += 1;
     }
 }

@@ -8,8 +8,8 @@ ghost use Rattle.slots.specs.Row.{Of, Within, gathered_four};
 ghost use Rattle.checks.specs.Lanes.{Shows};
 
 use crate::block::gather;
-use crate::lanes;
-use crate::lanes::Four;
+use crate::vectors;
+use crate::vectors::Four;
 use slots::{place, slot};
 
 // Sends what the checks answer to the region from `to` on.
@@ -22,7 +22,7 @@ fn scatter(work: &mut [f32], from: usize, to: usize, z: usize, edges: &[u8], l: 
         let b = edges[i];
         let s = slot(b, z, 0);
         let m = lanes::load(work, from + s);
-        lanes::store_some(work, to + s, z, lanes::message(l, factor, m, place(b)));
+        vectors::store_some(work, to + s, z, vectors::message(l, factor, m, place(b)));
         i += 1;
     }
 }

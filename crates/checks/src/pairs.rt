@@ -9,8 +9,8 @@ ghost use Rattle.slots.specs.Row.{Of, Within, gathered_four, Pairs};
 ghost use Rattle.checks.specs.Lanes.{Shows};
 
 use crate::block::check_block;
-use crate::lanes;
-use crate::lanes::Four;
+use crate::vectors;
+use crate::vectors::Four;
 use slots::{place, slot};
 
 // What the checks of two blocks have gathered.
@@ -26,15 +26,15 @@ fn gather(work: &[f32], from: usize, z: usize, t: usize, u: usize, edges: &[u8])
     ensures first_value { Shows result.first (gathered_four (reading work.now from) z t edges.now) }
     ensures second_value { Shows result.second (gathered_four (reading work.now from) z u edges.now) }
 {
-    let mut first = lanes::fresh();
-    let mut second = lanes::fresh();
+    let mut first = vectors::fresh();
+    let mut second = vectors::fresh();
     let mut i = 0;
     while i < edges.len() {
         let b = edges[i];
         let m = lanes::load(work, from + slot(b, z, t));
         let n = lanes::load(work, from + slot(b, z, u));
-        first = lanes::with(first, m, place(b));
-        second = lanes::with(second, n, place(b));
+        first = vectors::with(first, m, place(b));
+        second = vectors::with(second, n, place(b));
         i += 1;
     }
     Pair {
@@ -67,8 +67,8 @@ fn scatter(
         let r = slot(b, z, u);
         let m = lanes::load(work, from + s);
         let n = lanes::load(work, from + r);
-        lanes::store(work, to + s, lanes::message(first, factor, m, place(b)));
-        lanes::store(work, to + r, lanes::message(second, factor, n, place(b)));
+        lanes::store(work, to + s, vectors::message(first, factor, m, place(b)));
+        lanes::store(work, to + r, vectors::message(second, factor, n, place(b)));
         i += 1;
     }
 }

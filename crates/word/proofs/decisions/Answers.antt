@@ -2,7 +2,8 @@
 use Rattle.std.proofs.Common.{rules, map, ap, ◌∙◌, refl, w32}
 use lib.Ieee as Ieee
 use lib.Ieee.{lt}
-use Rattle.word.proofs.Sixteen.{Each1-sel_l, selected, decided}
+use Rattle.lanes.proofs.Lanewise.{selected}
+use Rattle.word.proofs.Sixteen.{Each1-sel_l, decided}
 use Rattle.word.proofs.decisions.Goals as goal
 
 pub overflow_cast-result : goal.overflow_cast-result
