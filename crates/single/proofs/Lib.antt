@@ -1,2 +1,2 @@
--- The laws of one check at a time. Assumes nothing.
-pub mod Smallest
+-- The laws of a check that is worked by itself. Assumes nothing.
+pub mod Sending

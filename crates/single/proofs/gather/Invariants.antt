@@ -1,12 +1,12 @@
--- `gather` meets its contract. The invariant: the first i base edges are gathered. Assumes nothing.
+-- `gather` meets its contract. The invariant: the base edges so far are gathered. Assumes nothing.
 use mathlib.Core.Path.{◌≡◌, sym, ◌∙◌}
 use mathlib.Core.List.{List}
-use Prim.Native.Nat.{ℕ, ◌+◌, ◌*◌, ◌-◌, ◌≤◌, ◌<◌}
+use Prim.Native.Nat.{ℕ, ◌+◌, ◌*◌, ◌<◌}
 use lib.ListN.{length, take, get_or}
 use lib.Ieee.{Float, nan}
 use Rattle.laws.proofs.Folded.{folded_more}
 use Rattle.messages.specs.Iteration.{gathered}
-use Rattle.rule.specs.Rule.{started, taken, Ordered}
+use Rattle.rule.specs.Rule.{started, taken}
 use Rattle.messages.specs.Memory.{reading}
 use Rattle.rule.specs.declared.Least.{Least}
 use Rattle.single.proofs.gather.Given as goal
@@ -18,8 +18,5 @@ unfolding gathered
 turn work from z t edges i s b l l' h e k p q =
     q ∙ rw (p, e, k) (sym (folded_more (λ x b. taken x (get_or work (from + (b * z + t)) nan) b) started edges i h))
 
-abbrev pub invariant-loop-i : goal.invariant-loop-i
-invariant-loop-i l = (l.i ≤ length l.edges) × (l.l ≡ gathered (reading l.work l.from) l.z l.t (take l.i l.edges)) × Ordered l.l
-
-abbrev pub decreases-loop-i : goal.decreases-loop-i
-decreases-loop-i l = length l.edges - l.i
+abbrev pub invariant-loop-b : goal.invariant-loop-b
+invariant-loop-b l = l.l ≡ gathered (reading l.work l.from) l.z l.t (take l.b-index l.edges)

@@ -1,7 +1,7 @@
 -- `row` meets its contract. The invariant: the checks at the offsets below t are done. Assumes nothing.
 use mathlib.Core.List.{List}
 use mathlib.Core.Path.{◌≡◌, refl, sym}
-use Prim.Native.Nat.{ℕ, ◌+◌, ◌*◌, ◌%◌, ◌-◌, ◌≤◌, ◌<◌}
+use Prim.Native.Nat.{ℕ, ◌+◌, ◌*◌, ◌%◌, ◌<◌}
 use native.Mathlib.Omega.{arith}
 use native.Mathlib.Nat.{mod-lt}
 use lib.ListN.{length, get_or}
@@ -35,7 +35,4 @@ turn from to z edges factor t work₀ work work' W U p within =
         low W _ (omega (arith, within q.index q.inside, mod-lt s p))
 
 abbrev pub invariant-loop-t : goal.invariant-loop-t
-invariant-loop-t l = (l.t ≤ l.z) × DoneUpto l.from l.to l.z l.edges l.factor l.t l.initial.work l.work
-
-abbrev pub decreases-loop-t : goal.decreases-loop-t
-decreases-loop-t l = l.z - l.t
+invariant-loop-t l = DoneUpto l.from l.to l.z l.edges l.factor l.t l.initial.work l.work
