@@ -1,5 +1,6 @@
 -- `check_at` meets its contract. Assumes nothing.
-use mathlib.Core.Path.{◌∙◌}
+use mathlib.Core.Path.{◌∙◌, ap}
+use Rattle.rule.specs.Rule.{answered}
 use Rattle.single.proofs.Sending.{turn}
 use Rattle.single.proofs.check_at.Goals as goal
 
