@@ -21,7 +21,7 @@ pub fn gather(work: &[f32], from: usize, z: usize, t: usize, edges: &[u8]) -> Fo
     let mut i = 0;
     while i < edges.len() {
         let b = edges[i];
-        let m = lanes::load(work, from + slot(b, z, t));
+        let m = lanes::load::<4>(work, from + slot(b, z, t));
         l = vectors::with(l, m, place(b));
         i += 1;
     }
@@ -46,7 +46,7 @@ fn scatter(
     while i < edges.len() {
         let b = edges[i];
         let s = slot(b, z, t);
-        let m = lanes::load(work, from + s);
+        let m = lanes::load::<4>(work, from + s);
         lanes::store(work, to + s, vectors::message(l, factor, m, place(b)));
         i += 1;
     }

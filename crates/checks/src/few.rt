@@ -21,7 +21,7 @@ fn scatter(work: &mut [f32], from: usize, to: usize, z: usize, edges: &[u8], l: 
     while i < edges.len() {
         let b = edges[i];
         let s = slot(b, z, 0);
-        let m = lanes::load(work, from + s);
+        let m = lanes::load::<4>(work, from + s);
         vectors::store_some(work, to + s, z, vectors::message(l, factor, m, place(b)));
         i += 1;
     }

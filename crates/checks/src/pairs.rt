@@ -31,8 +31,8 @@ fn gather(work: &[f32], from: usize, z: usize, t: usize, u: usize, edges: &[u8])
     let mut i = 0;
     while i < edges.len() {
         let b = edges[i];
-        let m = lanes::load(work, from + slot(b, z, t));
-        let n = lanes::load(work, from + slot(b, z, u));
+        let m = lanes::load::<4>(work, from + slot(b, z, t));
+        let n = lanes::load::<4>(work, from + slot(b, z, u));
         first = vectors::with(first, m, place(b));
         second = vectors::with(second, n, place(b));
         i += 1;
@@ -65,8 +65,8 @@ fn scatter(
         let b = edges[i];
         let s = slot(b, z, t);
         let r = slot(b, z, u);
-        let m = lanes::load(work, from + s);
-        let n = lanes::load(work, from + r);
+        let m = lanes::load::<4>(work, from + s);
+        let n = lanes::load::<4>(work, from + r);
         lanes::store(work, to + s, vectors::message(first, factor, m, place(b)));
         lanes::store(work, to + r, vectors::message(second, factor, n, place(b)));
         i += 1;

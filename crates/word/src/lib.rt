@@ -41,7 +41,7 @@ fn decide(work: &[f32], at: usize, n: usize, out: &mut [u8], to: usize)
 {
     let mut i = 0;
     while n - i >= 16 {
-        let m = lanes::load(work, at + i);
+        let m = lanes::load::<16>(work, at + i);
         decisions(m).copy_to_slice(&mut out[to + i..]);
         i += 16;
     }

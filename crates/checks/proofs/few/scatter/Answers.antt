@@ -27,7 +27,7 @@ overflow_add-to c =
 
 pub store_some-requires : goal.store_some-requires
 store_some-requires c =
-    (c.requires.0, c.requires.1, omega (arith, c.slot-s.ensures, c.requires.3 c.loop-i.i c.loop-i-test.true, c.loop-i.invariant.1.long))
+    (omega (arith, c.requires.0), omega (arith, c.requires.1), omega (arith, c.requires.0, c.slot-s.ensures, c.requires.3 c.loop-i.i c.loop-i-test.true, c.loop-i.invariant.1.long))
 
 pub loop-i-preserved : goal.loop-i-preserved
 loop-i-preserved c =
