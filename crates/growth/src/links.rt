@@ -4,52 +4,50 @@ ghost use Rattle.columns.specs.Found.{below};
 ghost use Rattle.laws.specs.Columns.{faulty};
 ghost use Rattle.growth.specs.Search.{meets, beside, parity_edges, joined, chosen};
 
+use crate::base_rows::BaseRows;
 use crate::choice::pick;
-use crate::first::fill_degree;
 use crate::search::Search;
 use crate::shared::Shared;
 
 #[derive(Drop)]
 pub struct Links {
-    pub m_b: usize,
+    pub base: BaseRows,
     pub shared: Shared,
     pub degree: [u8; 64],
-    pub ghost sizes: { (3 ≤ m_b) × (m_b ≤ 64) },
     pub ghost deep: { length degree ≡ 64 },
 }
 
 impl Links {
     // Of the parity columns alone.
-    pub fn new(m_b: usize) -> Links
-        requires { (3 ≤ m_b) × (m_b ≤ 64) }
-        ensures rows { result.m_b ≡ m_b }
-        ensures shared { (q r : ℕ) → q < m_b → r < 64 → meets result.shared.near q r ≡ beside m_b q r }
-        ensures edges { (r : ℕ) → r < m_b → get_or result.degree r 0 ≡ parity_edges m_b r }
+    pub fn new(base: BaseRows) -> Links
+        ensures rows { result.base.m_b ≡ base.m_b }
+        ensures shared { (q r : ℕ) → q < base.m_b → r < 64 → meets result.shared.near q r ≡ beside base.m_b q r }
+        ensures edges { (r : ℕ) → r < base.m_b → get_or result.degree r 0 ≡ parity_edges base.m_b r }
     {
         let mut degree: [u8; 64] = [0; 64];
-        fill_degree(m_b, &mut degree);
+        base.fill_degree(&mut degree);
         Links {
-            m_b,
-            shared: Shared::new(m_b),
+            base,
+            shared: Shared::new(&base),
             degree,
         }
     }
 
     // The row for place p.
     pub fn next_row(&self, rows: &[u8], p: usize) -> Option<usize>
-        requires { (p ≤ length rows.now) × ((j : ℕ) → j < p → faulty self.now.m_b rows.now j ≡ false) }
-        ensures { result ≡ below self.now.m_b (chosen self.now.m_b self.now.shared.near self.now.degree rows.now p) }
+        requires { (p ≤ length rows.now) × ((j : ℕ) → j < p → faulty self.now.base.m_b rows.now j ≡ false) }
+        ensures { result ≡ below self.now.base.m_b (chosen self.now.base.m_b self.now.shared.near self.now.degree rows.now p) }
     {
-        let mut search = Search::begin(self.m_b, rows, p);
+        let mut search = Search::begin(self.base, rows, p);
         search.run(&self.shared);
-        pick(self.m_b, &search.depth, &self.degree)
+        pick(self.base.m_b, &search.depth, &self.degree)
     }
 
     // Notes the row r of place p: it shares a column with the rows of that column so far, and has an edge more.
     pub fn join(&mut self, rows: &[u8], p: usize, r: usize)
         requires before { (p ≤ length rows.now) × ((j : ℕ) → j < p → get_or rows.now j 0 < 64) }
         requires row { (r < 64) × (get_or self.old.degree r 0 < 255) }
-        ensures rows { self.new.m_b ≡ self.old.m_b }
+        ensures rows { self.new.base.m_b ≡ self.old.base.m_b }
         ensures shared { (q s : ℕ)
             → q < 64
             → s < 64

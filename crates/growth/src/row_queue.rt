@@ -2,7 +2,7 @@
 ghost use Rattle.std.specs.Prelude.{◌≡◌, ◌+◌, ◌<◌, ◌≤◌, length, set, slice_index, MatchOption};
 
 #[derive(Clone, Copy)]
-pub struct Queue {
+pub struct RowQueue {
     pub rows: [u8; 64],
     pub head: usize,
     pub tail: usize,
@@ -10,11 +10,11 @@ pub struct Queue {
     pub ghost long: { length rows ≡ 64 },
 }
 
-impl Queue {
-    pub fn new() -> Queue
+impl RowQueue {
+    pub fn new() -> RowQueue
         ensures { (result.head ≡ 0) × (result.tail ≡ 0) }
     {
-        Queue {
+        RowQueue {
             rows: [0; 64],
             head: 0,
             tail: 0,

@@ -1,8 +1,8 @@
 // Which rows share a column: 64 tests for each of 64 rows.
-ghost use Rattle.std.specs.Prelude.{◌≡◌, true, ℕ, ◌+◌, ◌*◌, ◌<◌, ◌≤◌, length, set};
+ghost use Rattle.std.specs.Prelude.{◌≡◌, true, ℕ, ◌+◌, ◌*◌, ◌<◌, length, set};
 ghost use Rattle.growth.specs.Search.{meets, beside};
 
-use crate::first::fill_near;
+use crate::base_rows::BaseRows;
 
 #[derive(Drop)]
 pub struct Shared {
@@ -12,12 +12,11 @@ pub struct Shared {
 
 impl Shared {
     // By the parity columns alone.
-    pub fn new(m_b: usize) -> Shared
-        requires { (3 ≤ m_b) × (m_b ≤ 64) }
-        ensures { (q r : ℕ) → q < m_b → r < 64 → meets result.near q r ≡ beside m_b q r }
+    pub fn new(base: &BaseRows) -> Shared
+        ensures { (q r : ℕ) → q < base.now.m_b → r < 64 → meets result.near q r ≡ beside base.now.m_b q r }
     {
         let mut near: [bool; 4096] = [false; 4096];
-        fill_near(m_b, &mut near);
+        base.fill_near(&mut near);
         Shared { near }
     }
 

@@ -5,4 +5,4 @@ use Rattle.growth.proofs.links.Links.join.Given as goal
 
 abbrev pub invariant-loop-q : goal.invariant-loop-q
 invariant-loop-q l = Joining l.rows l.p l.r l.initial.self.shared.near l.q-index l.self.shared.near
-    × (l.self.m_b ≡ l.initial.self.m_b) × (l.self.degree ≡ l.initial.self.degree)
+    × (l.self.base.m_b ≡ l.initial.self.base.m_b) × (l.self.degree ≡ l.initial.self.degree)

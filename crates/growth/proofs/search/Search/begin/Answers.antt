@@ -10,8 +10,8 @@ pub loop-r-preserved : goal.loop-r-preserved
 loop-r-preserved c =
     let I = c.loop-r.invariant in
     let n = c.loop-r.r-index in
-    let e = column_at c.args.rows.now c.args.p n c.requires.before.0 (omega arith) in
-    let low : get_or (take (c.args.p - 3 * (c.args.p / 3)) (drop (3 * (c.args.p / 3)) c.args.rows.now)) n 0 < 64 = rw e (c.requires.before.1 _ (omega arith)) in (
+    let e = column_at c.args.rows.now c.args.p n c.requires.0 (omega arith) in
+    let low : get_or (take (c.args.p - 3 * (c.args.p / 3)) (drop (3 * (c.args.p / 3)) c.args.rows.now)) n 0 < 64 = rw e (c.requires.1 _ (omega arith)) in (
       rw (c.from.ensures, c.push.ensures.0, I.2) (begun_next I.0 (omega arith) _ e low),
       c.push.ensures.1 ∙ I.1,
       omega (arith, c.push.ensures.2, I.2),

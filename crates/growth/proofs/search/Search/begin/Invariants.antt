@@ -4,4 +4,4 @@ use Rattle.growth.specs.Search.{Begun}
 use Rattle.growth.proofs.search.Search.begin.Given as goal
 
 abbrev pub invariant-loop-r : goal.invariant-loop-r
-invariant-loop-r l = Begun l.rows l.p l.r-index (replicate 64 l.m_b) l.depth l.queue.rows × (l.queue.head ≡ 0) × (l.queue.tail ≡ l.r-index)
+invariant-loop-r l = Begun l.rows l.p l.r-index (replicate 64 l.base.m_b) l.depth l.queue.rows × (l.queue.head ≡ 0) × (l.queue.tail ≡ l.r-index)

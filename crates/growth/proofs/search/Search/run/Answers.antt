@@ -21,7 +21,7 @@ loop-q-preserved c =
     let spread = rw (c.from.ensures, row.1, rest.0, rest.1, I.2) at c.spread.ensures.reached in
     let queued = rw (back, c.spread.ensures.ends.0, I.2) at c.spread.ensures.queued in
     let next = queue_next queued (omega (arith, row.0, spread.grows)) in
-    let searched = searched_next I.0 I.1 row.0 spread (omega (arith, c.args.self.now.sizes)) in
+    let searched = searched_next I.0 I.1 row.0 spread (omega (arith, c.args.self.now.base.sizes)) in
     (rw (c.spread.ensures.ends.1, row.2) next, rw (c.spread.ensures.ends.1, row.2) searched, c.spread.ensures.ends.0 ∙ I.2)
 
 pub returns-then-self : goal.returns-then-self
@@ -33,10 +33,10 @@ returns-then-self c =
     let spread = rw (c.from.ensures, row.1, rest.0, rest.1, I.2) at c.spread.ensures.reached in
     let queued = rw (back, c.spread.ensures.ends.0, I.2) at c.spread.ensures.queued in
     let next = queue_next queued (omega (arith, row.0, spread.grows)) in
-    let pos : 0 < c.args.self.now.m_b = omega (arith, c.args.self.now.sizes) in
+    let pos : 0 < c.args.self.now.base.m_b = omega (arith, c.args.self.now.base.sizes) in
     depth_is next (searched_next I.0 I.1 row.0 spread pos) (inr (c.if-self.true ∙ c.spread.ensures.ends.0 ∙ I.2)) pos
 
 pub returns : goal.returns
 returns c =
     let I = c.loop-q.invariant in
-    depth_is I.0 I.1 (inl c.in_default.ensures.row.0) (omega (arith, c.args.self.now.sizes))
+    depth_is I.0 I.1 (inl c.in_default.ensures.row.0) (omega (arith, c.args.self.now.base.sizes))

@@ -5,9 +5,9 @@ use Rattle.growth.proofs.Reached.{Searched}
 use Rattle.growth.proofs.search.Search.run.Given as goal
 
 abbrev pub invariant-loop-q : goal.invariant-loop-q
-invariant-loop-q l = Queue l.initial.self.m_b l.self.depth l.self.queue.rows l.self.queue.head l.self.queue.tail
-    × Searched l.initial.self.m_b (meets l.shared.near) (λ q. eqb (get_or l.initial.self.depth q 0) 0) l.self.depth l.self.queue.rows l.self.queue.head
-    × (l.self.m_b ≡ l.initial.self.m_b)
+invariant-loop-q l = Queue l.initial.self.base.m_b l.self.depth l.self.queue.rows l.self.queue.head l.self.queue.tail
+    × Searched l.initial.self.base.m_b (meets l.shared.near) (λ q. eqb (get_or l.initial.self.depth q 0) 0) l.self.depth l.self.queue.rows l.self.queue.head
+    × (l.self.base.m_b ≡ l.initial.self.base.m_b)
 
 abbrev pub decreases-loop-q : goal.decreases-loop-q
-decreases-loop-q l = l.initial.self.m_b - l.self.queue.head
+decreases-loop-q l = l.initial.self.base.m_b - l.self.queue.head

@@ -13,7 +13,7 @@ push-requires c =
     let I = c.loop-r.invariant in
     let tested = rw (c.requires.left.2, I.1) at c.is_open.ensures in
     let room = spreading_room c.requires.queued I.0 c.loop-r-test.true (sym tested ∙ c.if-is_open.true) in
-    omega (arith, room, c.args.self.now.sizes)
+    omega (arith, room, c.args.self.now.base.sizes)
 
 pub loop-r-preserved : goal.loop-r-preserved
 loop-r-preserved c =
@@ -25,7 +25,7 @@ loop-r-preserved c =
     elim c.if-is_open.branch [
       | then-is_open w ↦ rw w.self-is (
         rw (w.push.ensures.0, w.push.ensures.2)
-            (spreading_take c.requires.queued I.0 c.loop-r-test.true of.sizes.1 waits (sym tested ∙ w.if-is_open.true) _ next),
+            (spreading_take c.requires.queued I.0 c.loop-r-test.true of.base.sizes.1 waits (sym tested ∙ w.if-is_open.true) _ next),
         I.1,
         w.push.ensures.1 ∙ I.2,
       )
@@ -35,5 +35,5 @@ loop-r-preserved c =
 pub returns : goal.returns
 returns c =
     let I = c.loop-r.invariant in
-    let e : c.loop-r.r ≡ c.args.self.now.m_b = omega arith in
+    let e : c.loop-r.r ≡ c.args.self.now.base.m_b = omega arith in
     record { ends = (I.1, I.2); queued = rw I.1 I.0.queued; reached = rw (e, ← c.requires.left.2) at I.0.spread }
