@@ -24,13 +24,17 @@ impl Links {
         ensures shared { (q r : ℕ) → q < base.m_b → r < 64 → meets result.shared.near q r ≡ beside base.m_b q r }
         ensures edges { (r : ℕ) → r < base.m_b → get_or result.degree r 0 ≡ parity_edges base.m_b r }
     {
-        let mut degree: [u8; 64] = [0; 64];
-        base.fill_degree(&mut degree);
-        Links {
+        let mut links = Links {
             base,
-            shared: Shared::new(&base),
-            degree,
-        }
+            shared: Shared {
+                near: [false; 4096],
+            },
+            degree: [0; 64],
+        };
+        let shared = &mut links.shared;
+        base.fill_near(&mut shared.near);
+        base.fill_degree(&mut links.degree);
+        links
     }
 
     // The row for place p.
@@ -38,7 +42,8 @@ impl Links {
         requires { (p ≤ length rows.now) × ((j : ℕ) → j < p → faulty self.now.base.m_b rows.now j ≡ false) }
         ensures { result ≡ below self.now.base.m_b (chosen self.now.base.m_b self.now.shared.near self.now.degree rows.now p) }
     {
-        let mut search = Search::begin(self.base, rows, p);
+        let mut search = Search::new(self.base);
+        search.begin(rows, p);
         search.run(&self.shared);
         pick(self.base.m_b, &search.depth, &self.degree)
     }

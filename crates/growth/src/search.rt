@@ -16,19 +16,28 @@ pub struct Search {
 }
 
 impl Search {
-    // The rows of place p's column so far stand in the queue, at depth 0.
-    pub fn begin(base: BaseRows, rows: &[u8], p: usize) -> Search
-        requires { (p ≤ length rows.now) × ((j : ℕ) → j < p → get_or rows.now j 0 < 64) }
-        ensures begun { Begun rows.now p (p % 3) (replicate 64 base.m_b) result.depth result.queue.rows }
-        ensures ends { (result.queue.head ≡ 0) × (result.queue.tail ≡ p % 3) × (result.base.m_b ≡ base.m_b) }
+    // No row is reached.
+    pub fn new(base: BaseRows) -> Search
+        ensures { (result.base.m_b ≡ base.m_b) × (result.depth ≡ replicate 64 base.m_b) × (result.queue.head ≡ 0) × (result.queue.tail ≡ 0) }
     {
-        let mut depth: [u8; 64] = [base.m_b as u8; 64];
-        let mut queue = RowQueue::new();
-        for r in &rows[3 * (p / 3)..p] {
-            depth[usize::from(*r)] = 0;
-            queue.push(*r);
+        Search {
+            base,
+            depth: [base.m_b as u8; 64],
+            queue: RowQueue::new(),
         }
-        Search { base, depth, queue }
+    }
+
+    // Puts the rows of place p's column so far into the queue, at depth 0.
+    pub fn begin(&mut self, rows: &[u8], p: usize)
+        requires empty { (self.old.queue.head ≡ 0) × (self.old.queue.tail ≡ 0) }
+        requires before { (p ≤ length rows.now) × ((j : ℕ) → j < p → get_or rows.now j 0 < 64) }
+        ensures begun { Begun rows.now p (p % 3) self.old.depth self.new.depth self.new.queue.rows }
+        ensures ends { (self.new.queue.head ≡ 0) × (self.new.queue.tail ≡ p % 3) × (self.new.base.m_b ≡ self.old.base.m_b) }
+    {
+        for r in &rows[3 * (p / 3)..p] {
+            self.depth[usize::from(*r)] = 0;
+            self.queue.push(*r);
+        }
     }
 
     // Row r is not reached yet, and shares a column with row q.

@@ -1,8 +1,6 @@
 // Which rows share a column: 64 tests for each of 64 rows.
-ghost use Rattle.std.specs.Prelude.{◌≡◌, true, ℕ, ◌+◌, ◌*◌, ◌<◌, length, set};
-ghost use Rattle.growth.specs.Search.{meets, beside};
-
-use crate::base_rows::BaseRows;
+ghost use Rattle.std.specs.Prelude.{◌≡◌, true, ◌+◌, ◌*◌, ◌<◌, length, set};
+ghost use Rattle.growth.specs.Search.{meets};
 
 #[derive(Drop)]
 pub struct Shared {
@@ -11,15 +9,6 @@ pub struct Shared {
 }
 
 impl Shared {
-    // By the parity columns alone.
-    pub fn new(base: &BaseRows) -> Shared
-        ensures { (q r : ℕ) → q < base.now.m_b → r < 64 → meets result.near q r ≡ beside base.now.m_b q r }
-    {
-        let mut near: [bool; 4096] = [false; 4096];
-        base.fill_near(&mut near);
-        Shared { near }
-    }
-
     // Rows q and r share a column.
     pub fn meets(&self, q: usize, r: usize) -> bool
         requires { (q < 64) × (r < 64) }

@@ -4,15 +4,16 @@ use Rattle.growth.proofs.Begun.{column_at, begun_first, begun_next}
 use Rattle.growth.proofs.search.Search.begin.Goals as goal
 
 pub loop-r-init : goal.loop-r-init
-loop-r-init c = (begun_first refl c.new-queue.result.long, c.new-queue.ensures.0, c.new-queue.ensures.1)
+loop-r-init c = (begun_first c.args.self.now.deep c.args.self.now.queue.long, c.requires.empty.0, c.requires.empty.1, refl)
 
 pub loop-r-preserved : goal.loop-r-preserved
 loop-r-preserved c =
     let I = c.loop-r.invariant in
     let n = c.loop-r.r-index in
-    let e = column_at c.args.rows.now c.args.p n c.requires.0 (omega arith) in
-    let low : get_or (take (c.args.p - 3 * (c.args.p / 3)) (drop (3 * (c.args.p / 3)) c.args.rows.now)) n 0 < 64 = rw e (c.requires.1 _ (omega arith)) in (
+    let e = column_at c.args.rows.now c.args.p n c.requires.before.0 (omega arith) in
+    let low : get_or (take (c.args.p - 3 * (c.args.p / 3)) (drop (3 * (c.args.p / 3)) c.args.rows.now)) n 0 < 64 = rw e (c.requires.before.1 _ (omega arith)) in (
       rw (c.from.ensures, c.push.ensures.0, I.2) (begun_next I.0 (omega arith) _ e low),
       c.push.ensures.1 ∙ I.1,
       omega (arith, c.push.ensures.2, I.2),
+      I.3,
     )
