@@ -1,7 +1,7 @@
 -- `pick` meets its contract. The invariant: the best of the rows below r is kept. Assumes nothing.
 use Rattle.std.proofs.Common.{◌≡◌, sym, ◌∙◌, get_or, arith}
 use Rattle.laws.proofs.Foremost.{by_keys}
-use Rattle.growth.proofs.Kept.{Best, best_take, best_keep, best_end, best_below}
+use Rattle.growth.proofs.Kept.{best_take, best_keep, best_end}
 use Rattle.growth.proofs.choice.pick.Goals as goal
 use Rattle.growth.proofs.choice.pick.Goals.{then-takes_over, else-takes_over}
 

@@ -1,10 +1,9 @@
 -- `search` meets its contract. The invariant: of the draws so far the first of least penalty is kept. It is said of all rows and
 -- shifts whose penalties the biases give. Assumes nothing.
-use Rattle.std.proofs.Common.{◌≡◌, ℕ, List, ap, ◌∙◌}
+use Rattle.std.proofs.Common.{ap, ◌∙◌}
 use Rattle.shifts.specs.Shifts.{penalty}
-use Rattle.shifts.specs.Biases.{bias_cost}
 use Rattle.shifts.proofs.Drawn.{draw_lt}
-use Rattle.shifts.proofs.Searched.{Draw, searching_first, drawn, search_take, search_keep, search_free, search_all}
+use Rattle.shifts.proofs.Searched.{searching_first, drawn, search_take, search_keep, search_free, search_all}
 use Rattle.shifts.proofs.search.search.Goals as goal
 use Rattle.shifts.proofs.search.search.Goals.{else-p-best, then-p-best}
 

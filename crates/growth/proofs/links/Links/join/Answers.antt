@@ -1,5 +1,5 @@
 -- `join` meets its contract. The invariant: r is joined with the rows before q. Assumes nothing.
-use Rattle.std.proofs.Common.{◌≡◌, ◌*◌, ◌/◌, ◌%◌, ◌<◌, get_or, take, drop, ◌-◌, refl, ◌∙◌, arith}
+use Rattle.std.proofs.Common.{◌*◌, ◌/◌, ◌<◌, get_or, take, drop, ◌-◌, refl, arith}
 use Rattle.growth.proofs.Begun.{column_at}
 use Rattle.growth.proofs.Filled.{joining_first, joining_next}
 use Rattle.growth.proofs.links.Links.join.Goals as goal

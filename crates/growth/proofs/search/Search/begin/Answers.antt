@@ -1,5 +1,5 @@
 -- `begin` meets its contract. The invariant: the rows before r are in the queue. Assumes nothing.
-use Rattle.std.proofs.Common.{◌*◌, ◌/◌, ◌%◌, ◌<◌, get_or, take, drop, ◌-◌, refl, ◌∙◌, arith}
+use Rattle.std.proofs.Common.{◌*◌, ◌/◌, ◌<◌, get_or, take, drop, ◌-◌, refl, ◌∙◌, arith}
 use Rattle.growth.proofs.Begun.{column_at, begun_first, begun_next}
 use Rattle.growth.proofs.search.Search.begin.Goals as goal
 

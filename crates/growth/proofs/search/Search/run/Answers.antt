@@ -1,5 +1,5 @@
 -- `run` meets its contract. The invariant: the rows that left the queue are worked off. Assumes nothing.
-use Rattle.std.proofs.Common.{◌≡◌, ◌+◌, ◌-◌, ◌<◌, refl, ◌∙◌, inl, inr, arith}
+use Rattle.std.proofs.Common.{◌≡◌, ◌-◌, ◌<◌, refl, ◌∙◌, inl, inr, arith}
 use Rattle.growth.proofs.Queue.{tail_most, queue_next}
 use Rattle.growth.proofs.Reached.{searched_first, searched_next, depth_is}
 use Rattle.growth.proofs.search.Search.run.Goals as goal

@@ -1,6 +1,5 @@
 -- `spread` meets its contract. The invariant: the open rows below r are reached. Assumes nothing.
-use Rattle.std.proofs.Common.{◌≡◌, true, ◌&&◌, ◌+◌, ◌-◌, ◌<◌, eqb, get_or, refl, sym, ap, ◌∙◌, arith}
-use Rattle.growth.specs.Search.{meets}
+use Rattle.std.proofs.Common.{◌≡◌, ◌+◌, ◌-◌, ◌<◌, get_or, refl, sym, ap, ◌∙◌, arith}
 use Rattle.growth.proofs.Queue.{spreading_first, spreading_skip, spreading_take, spreading_room}
 use Rattle.growth.proofs.search.Search.spread.Goals as goal
 use Rattle.growth.proofs.search.Search.spread.Goals.{else-is_open, then-is_open}

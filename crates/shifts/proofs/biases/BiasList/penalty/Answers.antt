@@ -1,5 +1,5 @@
 -- `penalty` meets its contract. The invariant: the sum is what the first i biases cost. Assumes nothing.
-use Rattle.std.proofs.Common.{◌∙◌, ap, arith}
+use Rattle.std.proofs.Common.{arith}
 use Rattle.shifts.proofs.Searched.{summing_first, summing_next, summing_all}
 use Rattle.shifts.proofs.biases.BiasList.penalty.Goals as goal
 

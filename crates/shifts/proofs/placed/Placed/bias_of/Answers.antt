@@ -1,5 +1,5 @@
 -- `bias_of` meets its contract. Assumes nothing.
-use Rattle.std.proofs.Common.{◌<◌, arith}
+use Rattle.std.proofs.Common.{arith}
 use Rattle.shifts.proofs.Biased.{shift_on_lt}
 use Rattle.shifts.proofs.placed.Placed.bias_of.Goals as goal
 
