@@ -10,6 +10,8 @@ ghost use Rattle.columns.specs.Found.{below};
 
 pub use lent::Columns;
 
+// These take slices and no `Columns`: the choice of shifts calls them where only some shifts are placed.
+
 // Whether column c has an edge on a row.
 pub fn has_row(rows: &[u8], c: usize, row: u8) -> bool
     requires { 3 * c + 3 ≤ length rows.now }

@@ -23,6 +23,7 @@ pub fn grow(m_b: usize, k_b: usize, rows: &mut [u8])
     for p in 0..3 * k_b {
         let r = links.next_row(rows, p).unwrap();
         links.join(rows, p, r);
+        // below 64, so the cast loses nothing
         rows[p] = r as u8;
     }
 }

@@ -9,6 +9,7 @@ use crate::choice::pick;
 use crate::search::Search;
 use crate::shared::Shared;
 
+// Not `Copy`, as it is large.
 #[derive(Drop)]
 pub struct Links {
     pub base: BaseRows,

@@ -2,6 +2,7 @@
 ghost use Rattle.std.specs.Prelude.{◌≡◌, true, ◌+◌, ◌*◌, ◌<◌, length, set};
 ghost use Rattle.growth.specs.Search.{meets};
 
+// Not `Copy`, as it is large.
 #[derive(Drop)]
 pub struct Shared {
     pub near: [bool; 4096],

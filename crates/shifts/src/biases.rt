@@ -5,6 +5,7 @@ ghost use Rattle.shifts.specs.Biases.{bias_cost, Held};
 
 use crate::weights::WeightTable;
 
+// Not `Copy`, as it is large.
 #[derive(Drop)]
 pub struct BiasList {
     pub biases: [u16; 183],
@@ -26,6 +27,7 @@ impl BiasList {
         requires { (self.old.count < 183) × (bias < 1534) }
         ensures { (self.new.biases ≡ set self.old.biases self.old.count bias) × (self.new.count ≡ self.old.count + 1) }
     {
+        // The cast is proved to lose nothing; a `try_from` would need an answer for what cannot be.
         self.biases[self.count] = bias as u16;
         self.count += 1;
     }

@@ -7,7 +7,8 @@ use crate::biases::BiasList;
 use crate::generator::{draw_of, next_state};
 use crate::weights::WeightTable;
 
-// More than any penalty: at most 183 weights of at most 1000 add up to one.
+// More than any penalty: at most 183 weights of at most 1000 add up to one. An `Option` of the best would be no plainer: the first draw
+// is taken by the same test as the others.
 const WORST: usize = 200000;
 
 // The first draw of least penalty of 256, and the generator's state after the draws; penalty 0 ends the search.

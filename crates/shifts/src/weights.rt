@@ -9,6 +9,7 @@ const TEST_Z: [u16; 17] = [
     2, 3, 4, 5, 6, 7, 8, 12, 16, 24, 32, 48, 64, 96, 128, 256, 324,
 ];
 
+// Not `Copy`, as it is large.
 #[derive(Drop)]
 pub struct WeightTable {
     weights: [u16; 2045],
@@ -37,6 +38,7 @@ fn add_lift(z: usize, weights: &mut [u16])
     ensures { (i : ℕ) → i < 2045 → slice_index weights.new i ≡ slice_index weights.old i + (if congruent z i 1022 then 1 else 0) }
 {
     let mut i = 1022 % z;
+    // A `while`: in a `for` by `step_by(z)` the proof loses where the loop stands (tried).
     while i < 2045 {
         weights[i] += 1;
         i += z;
