@@ -29,6 +29,22 @@ impl RowQueue {
         self.tail += 1;
     }
 
+    // The two halves of a push: a row behind the end, at a place of its own, and the end moved past such rows. A search that counts the
+    // end by itself in between is faster.
+    pub fn put(&mut self, at: usize, row: u8)
+        requires { at < 64 }
+        ensures { (self.new.rows ≡ set self.old.rows at row) × (self.new.head ≡ self.old.head) × (self.new.tail ≡ self.old.tail) }
+    {
+        self.rows[at] = row;
+    }
+
+    pub fn end_at(&mut self, tail: usize)
+        requires { (self.old.tail ≤ tail) × (tail ≤ 64) }
+        ensures { (self.new.rows ≡ self.old.rows) × (self.new.head ≡ self.old.head) × (self.new.tail ≡ tail) }
+    {
+        self.tail = tail;
+    }
+
     pub fn pop(&mut self) -> Option<u8>
         ensures rest { (self.new.rows ≡ self.old.rows) × (self.new.tail ≡ self.old.tail) }
         ensures row { MatchOption result ((self.old.tail ≤ self.old.head) × (self.new.head ≡ self.old.head))

@@ -57,12 +57,15 @@ impl Search {
         ensures reached { Spread self.old.base.m_b shared.now.near q self.old.base.m_b self.old.depth self.old.queue.rows self.old.queue.tail self.new.depth self.new.queue.rows self.new.queue.tail }
     {
         let next = self.depth[q] + 1;
+        let mut tail = self.queue.tail;
         for r in 0..self.base.m_b {
             if self.is_open(shared, q, r) {
                 self.depth[r] = next;
-                self.queue.push(r as u8);
+                self.queue.put(tail, r as u8);
+                tail += 1;
             }
         }
+        self.queue.end_at(tail);
     }
 
     // Ends when every row is reached, or none waits.
