@@ -6,8 +6,8 @@ ghost use Rattle.graph.specs.Calls.{shifts_told, shifts_written};
 use crate::tests::{shaped, sound};
 use refusals::Refusal;
 
-#[tactic(auto, unfolding(crate::specs::Calls::shifts_told, crate::specs::Calls::shifts_written))]
 // Writes shifts for the rows of k_b information columns.
+#[tactic(auto, unfolding(crate::specs::Calls::shifts_told, crate::specs::Calls::shifts_written))]
 pub fn assign_shifts(
     n_b: usize,
     k_b: usize,

@@ -7,8 +7,8 @@ use crate::tests::{lifted, sound};
 use columns::Columns;
 use refusals::Refusal;
 
-#[tactic(auto, unfolding(crate::specs::Calls::cycles_told))]
 // The four-cycles among k_b information columns at lift z.
+#[tactic(auto, unfolding(crate::specs::Calls::cycles_told))]
 pub fn four_cycles(
     n_b: usize,
     k_b: usize,

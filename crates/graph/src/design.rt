@@ -7,8 +7,8 @@ use crate::rate::columns_at;
 use crate::tests::rated;
 use refusals::Refusal;
 
-#[tactic(auto, unfolding(crate::specs::Calls::build_told, crate::specs::Calls::rows_built, crate::specs::Calls::shifts_built, crate::specs::Calls::built_rows, crate::specs::Calls::built_shifts))]
 // Writes the rows and the shifts of a graph of n_b base columns at a rate in percent.
+#[tactic(auto, unfolding(crate::specs::Calls::build_told, crate::specs::Calls::rows_built, crate::specs::Calls::shifts_built, crate::specs::Calls::built_rows, crate::specs::Calls::built_shifts))]
 pub fn build(
     n_b: usize,
     percent: usize,

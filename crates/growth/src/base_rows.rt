@@ -10,16 +10,16 @@ pub struct BaseRows {
 }
 
 impl BaseRows {
-    #[tactic(auto, unfolding(crate::specs::Search::ends))]
     // Row r is of parity column 0.
+    #[tactic(auto, unfolding(crate::specs::Search::ends))]
     fn is_end(&self, r: usize) -> bool
         ensures { result ≡ ends self.now.m_b r }
     {
         r == 0 || r == self.m_b - 1 || r == self.m_b / 2
     }
 
-    #[tactic(auto, unfolding(crate::specs::Search::beside))]
     // Rows q and r share a parity column: each later one has two rows that follow each other.
+    #[tactic(auto, unfolding(crate::specs::Search::beside))]
     fn are_beside(&self, q: usize, r: usize) -> bool
         requires { (q < 64) × (r < 64) }
         ensures { result ≡ beside self.now.m_b q r }
@@ -37,8 +37,8 @@ impl BaseRows {
         }
     }
 
-    #[tactic(auto, unfolding(crate::specs::Search::parity_edges))]
     // Row m_b / 2 is in parity column 0 besides two others; each other row is in two.
+    #[tactic(auto, unfolding(crate::specs::Search::parity_edges))]
     fn parity_edges(&self, r: usize) -> u8
         ensures { result ≡ parity_edges self.now.m_b r }
     {
