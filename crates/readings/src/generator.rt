@@ -16,6 +16,7 @@ pub fn fill_bits(word: &mut [u8], seed: usize)
     let mut state = seed;
     for bit in word.iter_mut() {
         state = next_state(state);
+        // A cast of what is below 2, where a `try_from` would have an error to take apart.
         *bit = (state % 2) as u8;
     }
 }

@@ -45,7 +45,7 @@ pub enum Kind {
     Mixed,
 }
 
-// A number, negated for a one.
+// A number, negated for a one: a sign, and no rotation. The library has no such select by a bool.
 fn turned(one: bool, x: f32) -> f32
     ensures { result ≡ cond one (neg x) x }
 {
@@ -68,6 +68,7 @@ fn awkward(i: usize) -> f32
 fn noisy(bit: u8, s: usize) -> f32
     ensures { result ≡ noisy_of bit s }
 {
+    // A cast of what is below 32768, where a `try_from` would have an error to take apart.
     let n = (s / 2 % 32768) as u16;
     let noise = (f32::from(n) - 16384.0) * 0.0000762939453125;
     turned(bit != 0, 1.0) + noise
@@ -86,7 +87,7 @@ fn mixed(bit: u8, s: usize) -> f32
 }
 
 impl Kind {
-    // Any number is taken: those above 4 count as 5.
+    // The one place that reads a kind's number. Any is taken: those above 4 count as 5.
     #[tactic(auto, unfolding(crate::specs::Kinds::kind_of))]
     fn of(kind: usize) -> Kind
         ensures { result ≡ kind_of kind }
@@ -116,7 +117,7 @@ impl Kind {
     }
 }
 
-// Fills a slice with the readings of a word, by a kind's number; bits that the word lacks count as 0.
+// Fills a slice with the readings of a word; bits that it lacks count as 0. The kind is a number, as any is taken.
 pub fn fill_readings(kind: usize, seed: usize, bits: &[u8], out: &mut [f32])
     ensures { out.new ≡ readings_of kind seed bits.now (length out.old) }
 {

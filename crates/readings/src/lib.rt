@@ -1,5 +1,5 @@
-// What test programs share: words of pseudo-random bits, readings of a word by a kind and a seed, and how a word stands in a
-// line of output. The oracle's driver computes the same. Assumes nothing.
+// What test programs share: words of pseudo-random bits, readings of a word by a kind and a seed, and how words and answers
+// stand in a line of output. The oracle's driver computes the same. Assumes nothing.
 #![tactic(auto)]
 
 mod generator;
@@ -10,4 +10,4 @@ mod words;
 pub use generator::{fill_bits, next_state};
 pub use kinds::fill_readings;
 pub use sums::{Wide, checksum, sum_step};
-pub use words::{Bits, Word};
+pub use words::{Answer, Bits, Word};

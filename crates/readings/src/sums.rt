@@ -2,7 +2,7 @@
 ghost use Rattle.std.specs.Prelude.{◌≡◌, ◌+◌, ◌*◌, ◌%◌, ℕ};
 ghost use Rattle.readings.specs.Sums.{checksum_by};
 
-// A number that widens to a usize. The library has no `From` of a u32.
+// A number that widens to a usize: by a cast for a u32, of which the library has no `From`.
 pub trait Wide: Copy {
     ghost wide: { Self → ℕ };
 

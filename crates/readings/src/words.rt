@@ -1,5 +1,6 @@
-// How a word stands in a line of output.
+// How a word and an answer stand in a line of output.
 use crate::sums::checksum;
+use refusals::Refusal;
 use std::fmt;
 
 // Bits as digits, with nothing between them.
@@ -28,5 +29,18 @@ impl<'a> fmt::Display for Word<'a> {
             return write!(f, "{}", Bits(self.bits));
         }
         write!(f, "sum {} count {}", checksum(self.bits), self.bits.len())
+    }
+}
+
+// What a call gives, or its refusal.
+#[derive(Clone, Copy)]
+pub struct Answer<T>(pub Result<T, Refusal>);
+
+impl<T: fmt::Display> fmt::Display for Answer<T> {
+    fn fmt<W: fmt::Write>(&self, f: &mut fmt::Formatter<W>) -> fmt::Result {
+        match &self.0 {
+            Ok(given) => write!(f, "{given}"),
+            Err(refusal) => write!(f, "{refusal}"),
+        }
     }
 }
