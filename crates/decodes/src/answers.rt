@@ -3,7 +3,6 @@ use crate::inputs::write_readings;
 use decoder::DecodeResult;
 use ldpc::Code;
 use readings::{Answer, Word};
-use refusals::Refusal;
 use std::fmt;
 use std::io;
 
@@ -27,12 +26,6 @@ impl<'a> fmt::Display for Decoded<'a> {
     }
 }
 
-// Up to 1,000 readings, into a word of as many bits. The work memory is not 0 beforehand, which is to make no difference.
-fn decode(rate: usize, rx: &[f32], limit: u16, word: &mut [u8]) -> Result<DecodeResult, Refusal> {
-    let mut work = [-1.0; 7888];
-    decoder::decode(rate, rx.len(), rx, limit, &mut work, word)
-}
-
 // Codes of up to 1,000 bits: the line of each limit. The kind is a number, as it is printed.
 pub fn print_decodes(
     rt: &impl Print,
@@ -51,9 +44,11 @@ pub fn print_decodes(
     let mut rx = [0.0; 1000];
     write_readings(c, kind, seed, &mut info[..k], &mut word[..n], &mut rx[..n]);
     for limit in LIMITS {
+        // Not 0 beforehand, which is to make no difference.
+        let mut work = [-1.0; 7888];
         let mut out = [0; 1000];
         let out = &mut out[..n];
-        let answer = decode(rate, &rx[..n], limit, out);
+        let answer = decoder::decode(rate, n, &rx[..n], limit, &mut work, out);
         let shown = answer.map(|record| Decoded { record, word: out });
         println!(rt; "decode {rate} {n} {kind} {seed} {limit} {}", Answer(shown))?;
     }
