@@ -1,13 +1,13 @@
 // The decodes of the table: those of (5,10) by start, grant and read, that of (5,9) by the one call. Both codes need 68
 // numbers of work memory.
+ghost use Rattle.refusals.specs.Outcome.{outcome};
 ghost use Rattle.std.specs.Prelude.{◌≡◌, length};
 ghost use Rattle.ldpc.specs.Choice.{chosen};
-ghost use Rattle.decoder.specs.Calls.{with_code, by_code, told_decode, start_told, start_written, grant_written};
+ghost use Rattle.decoder.specs.Calls.{with_code, by_code, start_told, start_written, grant_written};
 
 use crate::{print_asked, print_star};
-use decoder::{Decode, DecodeResult, Granted, ReadOut};
-use ldpc::{Choice, Code};
-use refusals::Counted;
+use decoder::{Decode, DecodeResult};
+use ldpc::Code;
 use std::io;
 
 // What is not so is printed after "not".
@@ -22,8 +22,8 @@ fn print_unsatisfied(rt: &impl Print, c: Code, word: &[u8]) -> io::Result<()> {
     text::print_bytes(rt, b"unsatisfied ")?;
     let counted = coder::unsatisfied(c, word);
     match counted {
-        Counted::Count(n) => text::print_number(rt, n, b'\n'),
-        Counted::Refused(r) => text::print_refusal(rt, r, b'\n'),
+        Ok(n) => text::print_number(rt, n, b'\n'),
+        Err(r) => text::print_refusal(rt, r, b'\n'),
     }
 }
 
@@ -38,10 +38,10 @@ fn print_result(rt: &impl Print, c: Code, r: DecodeResult, word: &[u8]) -> io::R
 }
 
 // What a read, or the one call, answers.
-fn print_answer(rt: &impl Print, c: Code, answer: ReadOut, word: &[u8]) -> io::Result<()> {
+fn print_answer(rt: &impl Print, c: Code, answer: Result<DecodeResult, Refusal>, word: &[u8]) -> io::Result<()> {
     match answer {
-        ReadOut::Result(r) => print_result(rt, c, r, word),
-        ReadOut::Refused(r) => text::print_refusal(rt, r, b'\n'),
+        Ok(r) => print_result(rt, c, r, word),
+        Err(r) => text::print_refusal(rt, r, b'\n'),
     }
 }
 
@@ -64,20 +64,20 @@ fn print_granted(rt: &impl Print, d: Decode, g: u16, work: &mut [f32]) -> io::Re
 {
     let granted = d.grant(g, work);
     match granted {
-        Granted::Decode(e) => print_read(rt, e, work),
-        Granted::Refused(r) => text::print_refusal(rt, r, b'\n'),
+        Ok(e) => print_read(rt, e, work),
+        Err(r) => text::print_refusal(rt, r, b'\n'),
     }
 }
 
 // A start by the code that Choice gives.
-fn start(rate: usize, n_tx: usize, rx: &[f32], work: &mut [f32]) -> Granted
-    ensures result_value { told_decode result ≡ with_code (chosen rate n_tx) (λ c. start_told c rx.now (length work.old)) }
+fn start(rate: usize, n_tx: usize, rx: &[f32], work: &mut [f32]) -> Result<Decode, Refusal>
+    ensures result_value { outcome result ≡ with_code (chosen rate n_tx) (λ c. start_told c rx.now (length work.old)) }
     ensures work_after { work.new ≡ by_code (chosen rate n_tx) (λ c. start_written c rx.now work.old) work.old }
 {
     let choice = Code::new(rate, n_tx);
     match choice {
-        Choice::Made(c) => Decode::start(c, rx, work),
-        Choice::Refused(r) => Granted::Refused(r),
+        Ok(c) => Decode::start(c, rx, work),
+        Err(r) => Err(r),
     }
 }
 
@@ -88,8 +88,8 @@ fn print_one_grant(rt: &impl Print, rx: &[f32]) -> io::Result<()> {
     let mut work: [f32; 68] = [0.0; 68];
     let started = start(5, 10, rx, &mut work);
     match started {
-        Granted::Decode(d) => print_granted(rt, d, 1, &mut work),
-        Granted::Refused(r) => text::print_refusal(rt, r, b'\n'),
+        Ok(d) => print_granted(rt, d, 1, &mut work),
+        Err(r) => text::print_refusal(rt, r, b'\n'),
     }
 }
 
@@ -99,8 +99,8 @@ fn print_no_grant(rt: &impl Print, rx: &[f32]) -> io::Result<()> {
     let mut work: [f32; 68] = [0.0; 68];
     let started = start(5, 10, rx, &mut work);
     match started {
-        Granted::Decode(d) => print_read(rt, d, &work),
-        Granted::Refused(r) => text::print_refusal(rt, r, b'\n'),
+        Ok(d) => print_read(rt, d, &work),
+        Err(r) => text::print_refusal(rt, r, b'\n'),
     }
 }
 
@@ -114,8 +114,8 @@ fn print_one_call(rt: &impl Print, rx: &[f32]) -> io::Result<()> {
     let answer = decoder::decode(5, 9, rx, 50, &mut work, &mut word);
     let code = Code::new(5, 9);
     match code {
-        Choice::Made(c) => print_answer(rt, c, answer, &word),
-        Choice::Refused(r) => text::print_refusal(rt, r, b'\n'),
+        Ok(c) => print_answer(rt, c, answer, &word),
+        Err(r) => text::print_refusal(rt, r, b'\n'),
     }
 }
 

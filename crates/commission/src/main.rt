@@ -7,8 +7,7 @@ mod decodes;
 ghost use Rattle.std.specs.Prelude.{◌≡◌};
 ghost use Rattle.coder.specs.Calls.{encode_written};
 
-use ldpc::{Choice, Code};
-use refusals::{Counted, Filled};
+use ldpc::Code;
 use std::io;
 
 pub fn print_asked(rt: &impl Print, rate: usize, n_tx: usize) -> io::Result<()> {
@@ -48,8 +47,8 @@ fn print_answer(rt: &impl Print, rate: usize, n_tx: usize, after: u8) -> io::Res
     text::print_bytes(rt, b": ")?;
     let choice = Code::new(rate, n_tx);
     match choice {
-        Choice::Made(c) => print_sizes(rt, c, after),
-        Choice::Refused(r) => text::print_refusal(rt, r, after),
+        Ok(c) => print_sizes(rt, c, after),
+        Err(r) => text::print_refusal(rt, r, after),
     }
 }
 
@@ -70,8 +69,8 @@ fn print_encoded(rt: &impl Print, c: Code, info: &[u8], word: &mut [u8]) -> io::
 {
     let answer = coder::encode(c, info, word);
     match answer {
-        Filled::Done => text::print_bits(rt, word),
-        Filled::Refused(r) => text::print_refusal(rt, r, b' '),
+        Ok(()) => text::print_bits(rt, word),
+        Err(r) => text::print_refusal(rt, r, b' '),
     }
 }
 
@@ -83,8 +82,8 @@ fn print_chosen(rt: &impl Print, rate: usize, n_tx: usize, info: &[u8]) -> io::R
     let mut word: [u8; 22] = [0; 22];
     let choice = Code::new(rate, n_tx);
     match choice {
-        Choice::Made(c) => print_encoded(rt, c, info, &mut word[..n_tx]),
-        Choice::Refused(r) => text::print_refusal(rt, r, b' '),
+        Ok(c) => print_encoded(rt, c, info, &mut word[..n_tx]),
+        Err(r) => text::print_refusal(rt, r, b' '),
     }
 }
 
@@ -127,8 +126,8 @@ fn print_cycles(
     text::print_number(rt, z, b':')?;
     text::print_bytes(rt, b" ")?;
     match graph::four_cycles(5, 2, rows, shifts, z) {
-        Counted::Count(n) => text::print_number(rt, n, after),
-        Counted::Refused(r) => text::print_refusal(rt, r, after),
+        Ok(n) => text::print_number(rt, n, after),
+        Err(r) => text::print_refusal(rt, r, after),
     }
 }
 

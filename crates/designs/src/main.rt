@@ -8,7 +8,6 @@ mod refused;
 
 ghost use Rattle.std.specs.Prelude.{◌≡◌, ◌+◌, ◌*◌, ◌<◌, ◌≤◌, length, IfOk};
 
-use refusals::{Counted, Filled};
 use std::io;
 use std::io::Read;
 
@@ -33,10 +32,10 @@ fn print_shift_sum(rt: &impl Print, shifts: &[u16]) -> io::Result<()> {
 }
 
 // The four-cycles at a lift, or the refusal.
-pub fn print_count(rt: &impl Print, counted: Counted, after: u8) -> io::Result<()> {
+pub fn print_count(rt: &impl Print, counted: Result<usize, Refusal>, after: u8) -> io::Result<()> {
     match counted {
-        Counted::Count(n) => text::print_number(rt, n, after),
-        Counted::Refused(r) => text::print_refusal(rt, r, after),
+        Ok(n) => text::print_number(rt, n, after),
+        Err(r) => text::print_refusal(rt, r, after),
     }
 }
 
@@ -66,8 +65,8 @@ fn print_built(
 ) -> io::Result<()> {
     let built = graph::build(n_b, percent, seed, rows, shifts);
     match built {
-        Filled::Refused(r) => text::print_refusal(rt, r, b'\n'),
-        Filled::Done => {
+        Err(r) => text::print_refusal(rt, r, b'\n'),
+        Ok(()) => {
             print_row_sum(rt, rows)?;
             print_shift_sum(rt, shifts)?;
             print_cycles(rt, n_b, k_b, rows, shifts)
@@ -104,8 +103,8 @@ fn print_shape(rt: &impl Print, n_b: usize, percent: usize, seed: u64) -> io::Re
     text::print_number(rt, n_b, b' ')?;
     text::print_number(rt, percent, b' ')?;
     match graph::information_columns(n_b, percent) {
-        Counted::Refused(r) => text::print_refusal(rt, r, b'\n'),
-        Counted::Count(k_b) => {
+        Err(r) => text::print_refusal(rt, r, b'\n'),
+        Ok(k_b) => {
             text::print_number(rt, k_b, b' ')?;
             print_graph(rt, n_b, percent, k_b, seed)
         }

@@ -2,7 +2,6 @@
 ghost use Rattle.std.specs.Prelude.{◌≤◌};
 
 use crate::print_count;
-use refusals::Filled;
 use std::io;
 
 // The rows of two columns of a graph with three base rows; the last is repeated.
@@ -21,10 +20,10 @@ fn print_lengths(rt: &impl Print, rows: usize, shifts: usize) -> io::Result<()> 
     text::print_number(rt, shifts, b':')
 }
 
-fn print_filled(rt: &impl Print, filled: Filled) -> io::Result<()> {
+fn print_filled(rt: &impl Print, filled: Result<(), Refusal>) -> io::Result<()> {
     match filled {
-        Filled::Done => text::print_bytes(rt, b" done\n"),
-        Filled::Refused(r) => {
+        Ok(()) => text::print_bytes(rt, b" done\n"),
+        Err(r) => {
             text::print_bytes(rt, b" ")?;
             text::print_refusal(rt, r, b'\n')
         }

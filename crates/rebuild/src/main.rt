@@ -7,7 +7,6 @@ ghost use Rattle.std.specs.Prelude.{◌≡◌, ◌+◌, ◌*◌, ◌<◌, ◌≤
 ghost use Rattle.laws.specs.Range.{some};
 ghost use Rattle.rebuild.specs.Compared.{table_seed, differs_at, columns_differ};
 
-use refusals::{Counted, Filled};
 use std::io;
 use tables::BaseGraph;
 
@@ -87,8 +86,8 @@ fn print_cycles(
     after: u8,
 ) -> io::Result<()> {
     match graph::four_cycles(g.shape.n_b, g.shape.k_b, rows, shifts, z) {
-        Counted::Count(n) => text::print_number(rt, n, after),
-        Counted::Refused(r) => text::print_refusal(rt, r, after),
+        Ok(n) => text::print_number(rt, n, after),
+        Err(r) => text::print_refusal(rt, r, after),
     }
 }
 
@@ -124,8 +123,8 @@ fn print_rebuilt(
 {
     let built = graph::build(g.shape.n_b, percent, seed, rows, shifts);
     match built {
-        Filled::Done => print_built(rt, g, rows, shifts),
-        Filled::Refused(r) => text::print_refusal(rt, r, b'\n'),
+        Ok(()) => print_built(rt, g, rows, shifts),
+        Err(r) => text::print_refusal(rt, r, b'\n'),
     }
 }
 
