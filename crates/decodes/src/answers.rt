@@ -3,8 +3,7 @@ use crate::inputs::write_readings;
 use decoder::DecodeResult;
 use ldpc::Code;
 use readings::{Answer, Word};
-use std::fmt;
-use std::io;
+use std::{fmt, io};
 
 const LIMITS: [u16; 5] = [0, 1, 2, 5, 50];
 

@@ -1,10 +1,13 @@
 // The base edges and the check lists of a code.
+ghost use Rattle.std.specs.Prelude.{◌≡◌};
+ghost use Rattle.readings.specs.Sums.{sum_step};
+
 use crate::inputs::in_full;
 use anyhow::Result;
+use base_edges::Edge;
 use ldpc::Code;
 use readings::{checksum, sum_step};
-use std::fmt;
-use std::io;
+use std::{fmt, io};
 
 // The members of a check, each after a space.
 #[derive(Clone, Copy)]
@@ -19,12 +22,18 @@ impl<'a> fmt::Display for Members<'a> {
     }
 }
 
+fn sum_edge(h: usize, e: Edge) -> usize
+    ensures { result ≡ sum_step (sum_step (sum_step h e.row) e.column) e.shift }
+{
+    sum_step(sum_step(sum_step(h, e.row), e.column), e.shift)
+}
+
 // No code has 200 base edges: all are asked for, and some past the last.
 pub fn print_edges(rt: &impl Print, c: Code) -> io::Result<()> {
     let count = (0..200).filter(|b| c.base_edge(*b).is_some()).count();
     let sum = (0..200)
         .filter_map(|b| c.base_edge(b))
-        .fold(0, |h, e| sum_step(sum_step(sum_step(h, e.row), e.column), e.shift));
+        .fold(0, |h, e| sum_edge(h, e));
     println!(rt; "edges {sum} count {count}")
 }
 

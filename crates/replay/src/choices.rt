@@ -1,8 +1,7 @@
 // The choice of a code, for every rate up to 7: those above 5 count as 5.
 use ldpc::Code;
 use readings::Answer;
-use std::fmt;
-use std::io;
+use std::{fmt, io};
 
 // A code as a line shows it: its family, its lift, its information bits and its shortened bits.
 #[derive(Clone, Copy)]

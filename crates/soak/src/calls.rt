@@ -10,12 +10,21 @@ use refusals::Refusal;
 #[derive(Clone, Copy, Debug, PartialEq, Eq)]
 pub enum Call {
     // of g iterations
-    Grant { g: u16, lent: usize, changed: bool },
+    Grant {
+        g: u16,
+        lent: usize,
+        changed: bool,
+    },
     // into an output of `room` bytes
-    Read { room: usize, lent: usize, changed: bool },
+    Read {
+        room: usize,
+        lent: usize,
+        changed: bool,
+    },
 }
 
-// By a drawn number, which names no kind: 0 to 4 iterations; more than may be done; or, of a decode that has converged, as many as may be.
+// By a drawn number, which names no kind: 0 to 4 iterations; more than may be done; or, of a decode that has converged, as
+// many as may be.
 #[tactic(auto, unfolding(crate::specs::Calls::amount_of))]
 fn amount_of(draw: usize, d: Decode) -> u16
     ensures { result ≡ amount_of draw d }
@@ -63,7 +72,11 @@ impl Call {
         let changed = state / 6144 % 8 == 5;
         if state % 3 == 0 {
             let room = room_of(state / 384, d.code.n_tx);
-            Call::Read { room, lent, changed }
+            Call::Read {
+                room,
+                lent,
+                changed,
+            }
         } else {
             let g = amount_of(state / 3, d);
             Call::Grant { g, lent, changed }
@@ -96,7 +109,11 @@ impl Call {
     {
         match self {
             Call::Grant { g, lent, changed } => grant_refusal(d, g, lent, changed),
-            Call::Read { room, lent, changed } => read_refusal(d, room, lent, changed),
+            Call::Read {
+                room,
+                lent,
+                changed,
+            } => read_refusal(d, room, lent, changed),
         }
     }
 }

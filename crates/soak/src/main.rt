@@ -21,6 +21,11 @@ use refusals::Refusal;
 use std::io;
 use tally::{Totals, add, limit_of, sum_of};
 
+// More work memory than any of the codes needs, and a byte more than the longest word.
+const WORK: usize = 8000;
+
+const OUT: usize = 1001;
+
 // A list under way: the record last returned, the sum of the accepted grants, the generator's state, the readings, the work
 // memory, and what is counted. It lends memory that is written, so it is no copy.
 #[derive(Drop)]
@@ -47,13 +52,20 @@ impl<'a> List<'a> {
     fn decode_at_once(&self, word: &mut [u8], work: &mut [f32]) -> Result<DecodeResult, Refusal> {
         let c = self.decode.code;
         let n = c.n_tx.min(word.len());
-        decoder::decode(c.rate, c.n_tx, self.rx, limit_of(self.sum), work, &mut word[..n])
+        decoder::decode(
+            c.rate,
+            c.n_tx,
+            self.rx,
+            limit_of(self.sum),
+            work,
+            &mut word[..n],
+        )
     }
 
     // The places where what a read gave differs from the unbroken decode, in another memory.
     fn differences(&self, r: DecodeResult, out: &[u8]) -> usize {
-        let mut word = [9; 1001];
-        let mut work = [7.5; 8000];
+        let mut word = [9; OUT];
+        let mut work = [7.5; WORK];
         let Ok(unbroken) = self.decode_at_once(&mut word, &mut work) else {
             return 1;
         };
@@ -71,9 +83,9 @@ impl<'a> List<'a> {
 
     // A refused read leaves its output as it was.
     fn read(&mut self, room: usize, lent: usize, changed: bool) -> Result<(), Refusal> {
-        let blank = [9; 1001];
+        let blank = [9; OUT];
         let mut out = blank;
-        let room = room.min(1001);
+        let room = room.min(OUT);
         let lent = lent.min(self.work.len());
         let d = changed_of(self.decode, changed);
         let answer = d.read(&self.work[..lent], &mut out[..room]);
@@ -89,10 +101,17 @@ impl<'a> List<'a> {
         let wanted = call.refusal(self.decode);
         let answer = match call {
             Call::Grant { g, lent, changed } => self.grant(g, lent, changed),
-            Call::Read { room, lent, changed } => self.read(room, lent, changed),
+            Call::Read {
+                room,
+                lent,
+                changed,
+            } => self.read(room, lent, changed),
         };
         add(&mut self.totals.refusals, usize::from(answer.is_err()));
-        add(&mut self.totals.differences, usize::from(answer.err() != wanted));
+        add(
+            &mut self.totals.differences,
+            usize::from(answer.err() != wanted),
+        );
         answer.is_err()
     }
 
@@ -146,7 +165,7 @@ fn soak_code(rate: usize, n_tx: usize, turn: usize, totals: &mut Totals)
     let mut info = [0; 1000];
     let mut word = [0; 1000];
     let mut rx = [0.0; 1000];
-    let mut work = [7.5; 8000];
+    let mut work = [7.5; WORK];
     inputs::fill_inputs(c, seed, &mut info[..k], &mut word[..n], &mut rx[..n]);
     soak_list(c, seed, &rx[..n], &mut work, totals);
 }
