@@ -1,12 +1,16 @@
 -- `rule::magnitude` meets its contract. Assumes nothing.
-use lib.Ieee as Ieee
-use Rattle.laws.proofs.Floats.{magnitude_kept, magnitude_turned}
+use mathlib.Core.Path.{◌≡◌, refl, ◌∙◌}
+use mathlib.Core.Bool.{false}
+use lib.Ieee.{Float, nan, inf, fin}
+use Rattle.std.specs.Float.{float_with_sign}
+use Rattle.laws.specs.Floats.{magnitude}
 use Rattle.rule.proofs.magnitude.Goals as goal
 
-pub returns-then-n-m : goal.returns-then-n-m
-unfolding Ieee.of_bits
-returns-then-n-m c = magnitude_kept c.args.m c.well_formed.0.1 c.if-n-m.true
+cleared : (x : Float) → float_with_sign false x ≡ magnitude x
+unfolding magnitude float_with_sign
+cleared nan = refl
+cleared (inf s) = refl
+cleared (fin s m e) = refl
 
-pub returns-else-n-m : goal.returns-else-n-m
-unfolding Ieee.of_bits
-returns-else-n-m c = magnitude_turned c.args.m c.well_formed.0.1 c.if-n-m.false
+pub returns : goal.returns
+returns c = c.abs.ensures.value ∙ cleared c.args.m

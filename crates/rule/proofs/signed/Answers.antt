@@ -5,7 +5,3 @@ use Rattle.rule.proofs.signed.Goals as goal
 pub returns-then-negative : goal.returns-then-negative
 unfolding Ieee.of_bits Ieee.neg
 returns-then-negative c = rw c.if-negative.true
-
-pub returns-else-negative : goal.returns-else-negative
-unfolding Ieee.of_bits
-returns-else-negative c = rw c.if-negative.false

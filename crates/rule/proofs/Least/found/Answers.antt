@@ -1,8 +1,8 @@
--- `rule::Least::found` meets its contract: 1.0 / 0.0 is an infinity, by computation. Assumes nothing.
+-- `rule::Least::found` meets its contract. Assumes nothing.
 use mathlib.Core.Path.{refl}
 use lib.Ieee as Ieee
 use Rattle.rule.proofs.Least.found.Goals as goal
 
 pub returns : goal.returns
-unfolding Ieee.of_bits Ieee.div
+unfolding Ieee.of_bits
 returns c = refl

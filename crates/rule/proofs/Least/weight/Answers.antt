@@ -6,5 +6,4 @@ use Rattle.laws.proofs.Parity.{unlike_xor}
 use Rattle.rule.proofs.Least.weight.Goals as goal
 
 pub returns : goal.returns
-returns c =
-    ap (mul binary32 c.args.factor) (c.unit.ensures ∙ ap signed (unlike_xor c.args.self.sign c.args.negative))
+returns c = ap (mul binary32 c.args.factor) (c.signed.ensures ∙ ap signed (unlike_xor c.args.self.sign c.args.negative))

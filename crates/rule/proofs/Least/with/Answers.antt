@@ -1,31 +1,24 @@
 -- `rule::Least::with` meets its contract. Assumes nothing.
-use mathlib.Core.Path.{refl}
-use Rattle.laws.specs.Floats.{magnitude}
-use Rattle.rule.specs.Rule.{taken}
-use Rattle.rule.proofs.Ordered.{second, taken_ordered}
+use mathlib.Core.Path.{refl, sym, subst}
+use Rattle.laws.proofs.Parity.{unlike_xor}
+use Rattle.rule.specs.Rule.{Ordered, taken}
+use Rattle.rule.proofs.Ordered.{taken_ordered}
 use Rattle.rule.proofs.Least.with.Goals as goal
 
-pub returns : goal.returns
+pub returns-clause-value : goal.returns-clause-value
 unfolding taken
-returns c =
-    let l = c.args.self in
-    let m = c.args.m in record {
-      value = rw (
-        c.lesser-2.ensures,
-        c.greater.ensures,
-        c.lesser.ensures,
-        c.select_place.ensures,
-        c.flipped.ensures,
-        c.magnitude-a.ensures,
-        second l (magnitude m) c.requires,
-      ) refl;
-      ordered = rw (
-        c.lesser-2.ensures,
-        c.greater.ensures,
-        c.lesser.ensures,
-        c.select_place.ensures,
-        c.flipped.ensures,
-        c.magnitude-a.ensures,
-        second l (magnitude m) c.requires,
-      ) (taken_ordered l m c.args.place c.well_formed.0.1.1.0.1 c.well_formed.1.0.1 c.requires);
-    }
+returns-clause-value c =
+    rw (
+      c.select.ensures,
+      c.select-2.ensures,
+      c.select-3.ensures,
+      c.select-second.ensures,
+      unlike_xor c.args.self.sign c.negative.result,
+      c.negative.ensures,
+      c.magnitude-a.ensures,
+    ) refl
+
+pub returns-clause-ordered : goal.returns-clause-ordered
+returns-clause-ordered c O =
+    subst Ordered (sym (returns-clause-value c))
+    (taken_ordered c.args.self c.args.m c.args.place c.well_formed.0.1.1.0.1 c.well_formed.1.0.1 O)

@@ -1,0 +1,12 @@
+-- `magnitude` meets its contract. Assumes nothing.
+use mathlib.Core.Path.{◌∙◌}
+use lib.Ieee as Ieee
+use lib.Ieee.{lt}
+use mir.Syntax.{w32}
+use Rattle.lanes.proofs.Lanewise.{selected}
+use Rattle.checks.proofs.Lanewise.{sizes}
+use Rattle.checks.proofs.vectors.magnitude.Goals as goal
+
+pub returns : goal.returns
+unfolding Ieee.of_bits
+returns c = selected w32 lt _ _ _ _ ∙ sizes 4 c.args.m c.fits-m.0 c.fits-m.1

@@ -1,0 +1,44 @@
+-- Runs of numbers that grow by a block or by one number. Assumes nothing.
+use Rattle.std.proofs.Common.{◌≡◌, List, ap, subst, ◌∙◌, ℕ, ◌+◌, ◌<◌, ◌≤◌, length, arith}
+use mathlib.Core.Logic.{◌⊎◌, inl, inr}
+use native.Mathlib.Nat.{add-zero}
+use native.Mathlib.Decide.{dec_lt}
+use lib.ListN.{get_or, set}
+use Rattle.laws.specs.Written.{Written, tabulate}
+use Rattle.laws.proofs.Written.{Among, get_d_tabulate, none, same, store, run_more}
+
+module _ {X : Type 0} (d : X) where
+  -- the first n places from `at` on are written
+  abbrev Run : ℕ → ℕ → (ℕ → X) → List X → List X → Type 0
+  Run at n f w w' = Written d at (λ i. i < n) f w w'
+
+  -- a run, and a block over its end and on, which says what f says
+  pub block_more : {at i : ℕ} {f : ℕ → X} {w w' w'' : List X} (m n : ℕ) (g : ℕ → X) {block : List X} → Run at i f w w'
+      → block ≡ tabulate g n → Run (at + m) n (λ j. get_or block j d) w' w'' → m ≤ i → i ≤ m + n
+      → ((j : ℕ) → j < n → g j ≡ f (m + j)) → Run at (m + n) f w w''
+  block_more {i = i} m n g W e U low_end high_end is =
+      run_more m n W U (λ j l. ap (λ x. get_or x j d) e ∙ get_d_tabulate d g n j l ∙ is j l)
+      (λ s p. omega (arith, p, high_end)) (λ j l. omega arith) (λ s q. part s q (dec_lt s m))
+    where
+      part : (s : ℕ) → s < m + n → Dec (s < m) → (s < i) ⊎ Among m n s
+      part s q (yes p) = inl (omega (arith, p, low_end))
+      part s q (no p) = inr (omega arith, q)
+
+  -- the first block of a run, and its first number
+  pub block_first : {at : ℕ} {w w' : List X} (n : ℕ) (f : ℕ → X) {block : List X} → block ≡ tabulate f n
+      → Run at n (λ j. get_or block j d) w w' → Run at n f w w'
+  block_first n f e W = same W (λ s p. p) (λ s p. p) (λ s h. ap (λ l. get_or l s d) e ∙ get_d_tabulate d f n s h)
+
+  pub one_first : {f : ℕ → X} (w : List X) (at : ℕ) (v : X) → at < length w → v ≡ f 0 → Run at 1 f w (set w at v)
+  one_first {f} w at v h e =
+      subst (λ (x : ℕ). Run at 1 f w (set w x v)) (add-zero at)
+      (store {P = λ s. s < 0} 0 v (none (λ s p. omega arith)) (omega arith) e (omega arith) (λ s p. omega arith) (λ s p n. absurd (n (omega arith))))
+
+  -- one number more
+  pub one_more : {at : ℕ} {f : ℕ → X} {w w' : List X} (i : ℕ) (v : X) → Run at i f w w' → at + i < length w → v ≡ f i
+      → Run at (i + 1) f w (set w' (at + i) v)
+  one_more i v W h e = store {P = λ s. s < i} i v W h e (omega arith) (λ s p. omega arith) (λ s q n. omega (arith, q, n))
+
+-- a place of a list, by another sum
+pub place : {X : Type 0} (d : X) (w : List X) (i j : ℕ) → i ≡ j → get_or w i d ≡ get_or w j d
+place d w i j e = ap (λ (x : ℕ). get_or w x d) e

@@ -1,0 +1,2 @@
+-- The terms of vectors. Assumes nothing.
+pub mod Masks
