@@ -3,7 +3,7 @@ use ldpc::Code;
 use refusals::Refusal;
 
 // A decode under way: its code, the iterations done, and whether the last of them converged.
-#[derive(Clone, Copy)]
+#[derive(Clone, Copy, Debug, PartialEq, Eq)]
 pub struct Decode {
     pub code: Code,
     pub iterations: u16,
@@ -11,7 +11,7 @@ pub struct Decode {
 }
 
 // What a read tells beside the word.
-#[derive(Clone, Copy)]
+#[derive(Clone, Copy, Debug, PartialEq, Eq)]
 pub struct DecodeResult {
     pub iterations: u16,
     pub converged: bool,

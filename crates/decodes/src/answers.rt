@@ -1,57 +1,55 @@
-// A decode by the one call, and its line.
+// Decodes by the one call, and their lines.
+use crate::inputs::write_readings;
 use decoder::DecodeResult;
-use std::io;
+use ldpc::Code;
+use readings::{Answer, Word};
+use std::{fmt, io};
 
-fn print_result(rt: &impl Print, r: DecodeResult, word: &[u8]) -> io::Result<()> {
-    text::print_number(rt, numbers::wide16(r.iterations), b' ')?;
-    if r.converged {
-        text::print_bytes(rt, b"1 ")?;
-    } else {
-        text::print_bytes(rt, b"0 ")?;
+const LIMITS: [u16; 5] = [0, 1, 2, 5, 50];
+
+// A decode's record and its word as a line shows them.
+#[derive(Clone, Copy)]
+struct Decoded<'a> {
+    record: DecodeResult,
+    word: &'a [u8],
+}
+
+impl<'a> fmt::Display for Decoded<'a> {
+    fn fmt<W: fmt::Write>(&self, f: &mut fmt::Formatter<W>) -> fmt::Result {
+        let word = Word {
+            bits: self.word,
+            full: 78,
+        };
+        let converged = u8::from(self.record.converged);
+        write!(f, "{} {converged} {word}", self.record.iterations)
     }
-    text::print_word(rt, word, 78)
 }
 
-fn print_answer(rt: &impl Print, answer: Result<DecodeResult, Refusal>, word: &[u8]) -> io::Result<()> {
-    match answer {
-        Ok(r) => print_result(rt, r, word),
-        Err(r) => text::print_refusal(rt, r, b'\n'),
-    }
-}
-
-fn print_asked(
+// Codes of up to 1,000 bits: the line of each limit. The kind is a number, as it is printed.
+pub fn print_decodes(
     rt: &impl Print,
-    rate: usize,
-    n_tx: usize,
-    kind: usize,
-    seed: usize,
-    limit: u16,
-) -> io::Result<()> {
-    text::print_bytes(rt, b"decode ")?;
-    text::print_number(rt, rate, b' ')?;
-    text::print_number(rt, n_tx, b' ')?;
-    text::print_number(rt, kind, b' ')?;
-    text::print_number(rt, seed, b' ')?;
-    text::print_number(rt, numbers::wide16(limit), b' ')
-}
-
-// Up to 1,000 readings. The work memory is not 0 beforehand, which is to make no difference.
-pub fn print_decode(
-    rt: &impl Print,
+    c: Code,
     rate: usize,
     kind: usize,
     seed: usize,
-    limit: u16,
-    rx: &[f32],
 ) -> io::Result<()> {
-    let n = rx.len();
-    if 1000 < n {
+    let k = c.info_bits();
+    let n = c.coded_bits();
+    if 1000 < k.max(n) {
         return Ok(());
     }
-    let mut work: [f32; 7888] = [-1.0; 7888];
-    let mut room: [u8; 1000] = [0; 1000];
-    let word = &mut room[..n];
-    let answer = decoder::decode(rate, n, rx, limit, &mut work, word);
-    print_asked(rt, rate, n, kind, seed, limit)?;
-    print_answer(rt, answer, word)
+    let mut info = [0; 1000];
+    let mut word = [0; 1000];
+    let mut rx = [0.0; 1000];
+    write_readings(c, kind, seed, &mut info[..k], &mut word[..n], &mut rx[..n]);
+    for limit in LIMITS {
+        // Not 0 beforehand, which is to make no difference.
+        let mut work = [-1.0; 7888];
+        let mut out = [0; 1000];
+        let out = &mut out[..n];
+        let answer = decoder::decode(rate, n, &rx[..n], limit, &mut work, out);
+        let shown = answer.map(|record| Decoded { record, word: out });
+        println!(rt; "decode {rate} {n} {kind} {seed} {limit} {}", Answer(shown))?;
+    }
+    Ok(())
 }

@@ -7,62 +7,49 @@
 mod answers;
 mod inputs;
 
+use anyhow::Result;
 use ldpc::Code;
-use std::io;
 
-// Every kind of readings, with two seeds.
-fn print_kinds(rt: &impl Print, c: Code, rate: usize) -> io::Result<()> {
-    let mut kind = 0;
-    while kind < 6 {
-        inputs::print_decodes(rt, c, rate, kind, 2026)?;
-        inputs::print_decodes(rt, c, rate, kind, 777)?;
-        kind += 1;
+// Rates and lengths: five of the tiny family, five of the small one, and ten of the large one with lifts from 1 to 17. A rate
+// above 5 counts as 5.
+const CODES: [(usize, usize); 20] = [
+    (5, 8),
+    (5, 10),
+    (9, 10),
+    (4, 22),
+    (5, 22),
+    (0, 4),
+    (0, 9),
+    (2, 21),
+    (4, 33),
+    (5, 78),
+    (0, 10),
+    (0, 60),
+    (0, 61),
+    (5, 60),
+    (1, 120),
+    (2, 200),
+    (3, 307),
+    (4, 500),
+    (0, 777),
+    (3, 1000),
+];
+
+const SEEDS: [usize; 2] = [2026, 777];
+
+fn print_code(rt: &impl Print, rate: usize, n_tx: usize) -> Result<()> {
+    let c = Code::new(rate, n_tx)?;
+    for kind in 0..6 {
+        for seed in SEEDS {
+            answers::print_decodes(rt, c, rate, kind, seed)?;
+        }
     }
     Ok(())
 }
 
-fn print_code(rt: &impl Print, rate: usize, n_tx: usize) -> io::Result<()> {
-    let choice = Code::new(rate, n_tx);
-    match choice {
-        Ok(c) => print_kinds(rt, c, rate),
-        Err(r) => text::print_refusal(rt, r, b'\n'),
+fn main(rt: HostRuntime) -> Result<()> {
+    for (rate, n_tx) in CODES {
+        print_code(&rt, rate, n_tx)?;
     }
-}
-
-// A rate above 5 counts as 5.
-fn print_tiny_codes(rt: &impl Print) -> io::Result<()> {
-    print_code(rt, 5, 8)?;
-    print_code(rt, 5, 10)?;
-    print_code(rt, 9, 10)?;
-    print_code(rt, 4, 22)?;
-    print_code(rt, 5, 22)
-}
-
-fn print_small_codes(rt: &impl Print) -> io::Result<()> {
-    print_code(rt, 0, 4)?;
-    print_code(rt, 0, 9)?;
-    print_code(rt, 2, 21)?;
-    print_code(rt, 4, 33)?;
-    print_code(rt, 5, 78)
-}
-
-// Lifts from 1 to 17.
-fn print_large_codes(rt: &impl Print) -> io::Result<()> {
-    print_code(rt, 0, 10)?;
-    print_code(rt, 0, 60)?;
-    print_code(rt, 0, 61)?;
-    print_code(rt, 5, 60)?;
-    print_code(rt, 1, 120)?;
-    print_code(rt, 2, 200)?;
-    print_code(rt, 3, 307)?;
-    print_code(rt, 4, 500)?;
-    print_code(rt, 0, 777)?;
-    print_code(rt, 3, 1000)
-}
-
-fn main(rt: HostRuntime) -> io::Result<()> {
-    print_tiny_codes(&rt)?;
-    print_small_codes(&rt)?;
-    print_large_codes(&rt)?;
     Ok(())
 }

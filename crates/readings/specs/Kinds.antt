@@ -3,6 +3,8 @@ use Rattle.std.specs.Prelude.{Bool, true, false, not, cond, List, [], ◌∷◌,
 use Rattle.std.specs.Float.{nan, inf, fin, binary32}
 use Rattle.std.specs.Float.Ieee.{unlike, round, neg, add, sub, mul, of_int}
 use Rattle.laws.specs.Written.{tabulate}
+use Rattle.readings.specs.declared.kinds.Kind.{Kind}
+use Rattle.readings.specs.declared.kinds.Kind.TheVariants.{Signs, Levels, Tenth, Awkward, Noise, Mixed}
 use Rattle.readings.specs.Generator.{state_at}
 
 -- every byte but 0 is a one
@@ -55,15 +57,25 @@ noisy_of bit s =
 unfoldable pub mixed_of : ℕ → ℕ → Float
 mixed_of bit s = cond (eqb (s % 32) 1) (awkward_at (s / 32)) (noisy_of bit s)
 
--- the reading of a bit in a state of the generator, by its kind: 0 signs alone, 1 four magnitudes, 2 the magnitude 0.1 alone,
--- 3 awkward values, 4 noise, any other noise with awkward values in it; of kinds 0 to 2 some signs are reversed
-unfoldable pub reading_of : ℕ → ℕ → ℕ → Float
-reading_of kind bit s =
-    cond (eqb kind 0) (turned (unlike (is_one bit) (eqb (s % 64) 1)) one)
-    (cond (eqb kind 1) (turned (unlike (is_one bit) (eqb (s % 16) 1)) (level_at (s / 16)))
-    (cond (eqb kind 2) (turned (unlike (is_one bit) (eqb (s % 16) 1)) (round binary32 false 1 10))
-    (cond (eqb kind 3) (awkward_at (s / 16))
-    (cond (eqb kind 4) (noisy_of bit s) (mixed_of bit s)))))
+-- the kinds, by their numbers
+unfoldable pub kind_of : ℕ → Kind
+kind_of kind =
+    cond (eqb kind 0) Signs
+    (cond (eqb kind 1) Levels (cond (eqb kind 2) Tenth (cond (eqb kind 3) Awkward (cond (eqb kind 4) Noise Mixed))))
+
+-- the reading of a bit in a state of the generator: signs alone, four magnitudes, the magnitude 0.1 alone, awkward values,
+-- noise, or noise with awkward values in it; of the first three some signs are reversed
+abbrev pub reading_by : Kind → ℕ → ℕ → Float
+reading_by Signs bit s = turned (unlike (is_one bit) (eqb (s % 64) 1)) one
+reading_by Levels bit s = turned (unlike (is_one bit) (eqb (s % 16) 1)) (level_at (s / 16))
+reading_by Tenth bit s = turned (unlike (is_one bit) (eqb (s % 16) 1)) (round binary32 false 1 10)
+reading_by Awkward bit s = awkward_at (s / 16)
+reading_by Noise bit s = noisy_of bit s
+reading_by Mixed bit s = mixed_of bit s
+
+-- the same by the kind's number: any above 4 counts as 5
+abbrev pub reading_of : ℕ → ℕ → ℕ → Float
+reading_of kind bit s = reading_by (kind_of kind) bit s
 
 -- n readings of a word; bits that it lacks count as 0
 unfoldable pub readings_of : ℕ → ℕ → List ℕ → ℕ → List Float

@@ -1,3 +1,4 @@
--- The inputs that are computed. Assumes nothing.
+-- The inputs that are computed, and the checksum of what is printed. Assumes nothing.
 pub mod Generator
 pub mod Kinds
+pub mod Sums

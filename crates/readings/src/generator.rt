@@ -1,5 +1,5 @@
 // The generator, and words of its bits.
-ghost use Rattle.std.specs.Prelude.{◌≡◌, ◌%◌, length};
+ghost use Rattle.std.specs.Prelude.{◌≡◌, length};
 ghost use Rattle.readings.specs.Generator.{next_state, random_bits};
 
 // A step of the generator.
@@ -9,21 +9,14 @@ pub fn next_state(s: usize) -> usize
     (s % 65537) * 75 % 65537
 }
 
-fn bit_of(s: usize) -> u8
-    ensures { result ≡ s % 2 }
-{
-    if s % 2 == 0 { 0 } else { 1 }
-}
-
 // Fills a word with the generator's bits.
 pub fn fill_bits(word: &mut [u8], seed: usize)
     ensures { word.new ≡ random_bits seed (length word.old) }
 {
     let mut state = seed;
-    let mut i = 0;
-    while i < word.len() {
+    for bit in word.iter_mut() {
         state = next_state(state);
-        word[i] = bit_of(state);
-        i += 1;
+        // A cast of what is below 2, where a `try_from` would have an error to take apart.
+        *bit = (state % 2) as u8;
     }
 }

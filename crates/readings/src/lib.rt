@@ -1,9 +1,13 @@
-// Computed test inputs: words of pseudo-random bits, and readings of a word by a kind and a seed. The oracle's driver
-// computes the same. Assumes nothing.
+// What test programs share: words of pseudo-random bits, readings of a word by a kind and a seed, and how words and answers
+// stand in a line of output. The oracle's driver computes the same. Assumes nothing.
 #![tactic(auto)]
 
 mod generator;
 mod kinds;
+mod sums;
+mod words;
 
 pub use generator::{fill_bits, next_state};
 pub use kinds::fill_readings;
+pub use sums::{Wide, checksum, sum_step};
+pub use words::{Answer, Bits, Word};

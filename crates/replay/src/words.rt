@@ -1,114 +1,92 @@
-// Encodings, and unsatisfied counts of words.
-ghost use Rattle.std.specs.Prelude.{◌≡◌, ◌≤◌, length};
-ghost use Rattle.coder.specs.Calls.{encode_written};
-ghost use Rattle.readings.specs.Generator.{random_bits};
+// Encodings, and unsatisfied counts of words. Both of codes of up to 1,000 bits.
+ghost use Rattle.std.specs.Prelude.{◌≡◌};
+ghost use Rattle.refusals.specs.Outcome.{outcome};
+ghost use Rattle.coder.specs.Calls.{unsatisfied_told};
 ghost use Rattle.replay.specs.Inputs.{changed};
 
-use crate::inputs::flip;
+use crate::inputs::{flip, write_encoding};
 use ldpc::Code;
-use readings::fill_bits;
+use readings::{Answer, Word, fill_bits};
+use refusals::Refusal;
 use std::io;
 
-fn print_encoded(rt: &impl Print, answer: Result<(), Refusal>, word: &[u8]) -> io::Result<()> {
-    text::print_bytes(rt, b"encoding ")?;
-    match answer {
-        Ok(()) => text::print_word(rt, word, 200),
-        Err(r) => text::print_refusal(rt, r, b'\n'),
-    }
+// How many checks a word does not meet: as it is, with one bit changed, and with three.
+#[derive(Clone, Copy)]
+struct Counts {
+    as_it_is: Result<usize, Refusal>,
+    one_changed: Result<usize, Refusal>,
+    three_changed: Result<usize, Refusal>,
 }
 
-// What is being counted is named before the count.
-fn print_count(rt: &impl Print, c: Code, kind: &[u8], word: &[u8]) -> io::Result<()> {
-    text::print_bytes(rt, kind)?;
-    let counted = coder::unsatisfied(c, word);
-    match counted {
-        Ok(n) => text::print_number(rt, n, b'\n'),
-        Err(r) => text::print_refusal(rt, r, b'\n'),
-    }
-}
-
-// An encoding of too many bits: that is refused before the output's length is looked at.
-fn print_refused(rt: &impl Print, c: Code, given: &[u8]) -> io::Result<()> {
-    let mut out: [u8; 1] = [0; 1];
-    let answer = coder::encode(c, given, &mut out);
-    print_encoded(rt, answer, &out)
-}
-
-// How many checks an encoding does not meet, as it is and with bits changed.
-fn print_changed(rt: &impl Print, c: Code, word: &mut [u8]) -> io::Result<()>
-    ensures { word.new ≡ changed word.old }
+#[tactic(auto, unfolding(crate::specs::Inputs::changed))]
+fn changed_counts(c: Code, word: &mut [u8]) -> Counts
+    ensures word_after { word.new ≡ changed word.old }
+    ensures first { outcome result.as_it_is ≡ unsatisfied_told c word.old }
+    ensures last { outcome result.three_changed ≡ unsatisfied_told c word.new }
 {
-    let first = print_count(rt, c, b"encoded ", word);
     let n = word.len();
+    let as_it_is = coder::unsatisfied(c, word);
     flip(word, n / 3);
-    let second = print_count(rt, c, b"flipped ", word);
+    let one_changed = coder::unsatisfied(c, word);
     flip(word, n - n / 4);
     flip(word, 0);
-    first?;
-    second?;
-    print_count(rt, c, b"flipped ", word)
+    Counts {
+        as_it_is,
+        one_changed,
+        three_changed: coder::unsatisfied(c, word),
+    }
 }
 
-// The encoding of the generator's bits, in memory of the right lengths, its counts, and a refusal.
-fn print_answers(
-    rt: &impl Print,
-    c: Code,
-    seed: usize,
-    info: &mut [u8],
-    word: &mut [u8],
-) -> io::Result<()>
-    ensures info_after { info.new ≡ random_bits seed (length info.old) }
-    ensures word_after { word.new ≡ changed (encode_written c (random_bits seed (length info.old)) word.old) }
-{
-    fill_bits(info, seed);
-    let answer = coder::encode(c, info, word);
-    let first = print_encoded(rt, answer, word);
-    let second = print_changed(rt, c, word);
-    first?;
-    second?;
-    print_refused(rt, c, word)
+fn print_counts(rt: &impl Print, counts: Counts) -> io::Result<()> {
+    println!(rt; "encoded {}", Answer(counts.as_it_is))?;
+    println!(rt; "flipped {}", Answer(counts.one_changed))?;
+    println!(rt; "flipped {}", Answer(counts.three_changed))
 }
 
-// Codes of up to 1,000 bits.
+fn print_encoded(rt: &impl Print, answer: Result<(), Refusal>, word: &[u8]) -> io::Result<()> {
+    let shown = answer.map(|_| Word {
+        bits: word,
+        full: 200,
+    });
+    println!(rt; "encoding {}", Answer(shown))
+}
+
+// The encoding of the generator's bits, its counts, and a refusal: of too many bits, which is refused before the output's
+// length is looked at.
 pub fn print_encoding(rt: &impl Print, c: Code, seed: usize) -> io::Result<()> {
     let k = c.info_bits();
     let n = c.coded_bits();
-    if 1000 < k {
+    if 1000 < k.max(n) {
         return Ok(());
     }
-    if 1000 < n {
-        return Ok(());
-    }
-    let mut info: [u8; 1000] = [0; 1000];
-    let mut word: [u8; 1000] = [0; 1000];
-    print_answers(rt, c, seed, &mut info[..k], &mut word[..n])
+    let mut info = [0; 1000];
+    let mut word = [0; 1000];
+    let word = &mut word[..n];
+    let answer = write_encoding(c, seed, &mut info[..k], word);
+    print_encoded(rt, answer, word)?;
+    print_counts(rt, changed_counts(c, word))?;
+    let mut out = [0; 1];
+    let answer = coder::encode(c, word, &mut out);
+    print_encoded(rt, answer, &out)
 }
 
-// The count of the first n bits.
-fn print_front(rt: &impl Print, c: Code, kind: &[u8], word: &[u8], n: usize) -> io::Result<()>
-    requires { n ≤ length word.now }
+fn unmet(c: Code, word: &[u8]) -> Answer<usize>
+    ensures { outcome result.0 ≡ unsatisfied_told c word.now }
 {
-    print_count(rt, c, kind, &word[..n])
+    Answer(coder::unsatisfied(c, word))
 }
 
-// Counts of n bits, of fewer, of none, and of all there are.
-fn print_counts(rt: &impl Print, c: Code, n: usize, word: &[u8]) -> io::Result<()>
-    requires { n ≤ length word.now }
-{
-    print_front(rt, c, b"random ", word, n)?;
-    print_front(rt, c, b"short ", word, n - n / 4)?;
-    print_front(rt, c, b"short ", word, n / 2)?;
-    print_front(rt, c, b"short ", word, 0)?;
-    print_count(rt, c, b"long ", word)
-}
-
-// The generator's bits, with ones past n_tx, which do not count. Codes of up to 1,000 bits.
+// The generator's bits, with ones past n_tx, which do not count: n bits, fewer, none, and all there are.
 pub fn print_unsatisfied(rt: &impl Print, c: Code, seed: usize) -> io::Result<()> {
     let n = c.coded_bits();
     if 1000 < n {
         return Ok(());
     }
-    let mut word: [u8; 1050] = [1; 1050];
+    let mut word = [1; 1050];
     fill_bits(&mut word[..n], seed);
-    print_counts(rt, c, n, &word)
+    println!(rt; "random {}", unmet(c, &word[..n]))?;
+    println!(rt; "short {}", unmet(c, &word[..n - n / 4]))?;
+    println!(rt; "short {}", unmet(c, &word[..n / 2]))?;
+    println!(rt; "short {}", unmet(c, &[]))?;
+    println!(rt; "long {}", unmet(c, &word))
 }

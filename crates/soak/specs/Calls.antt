@@ -1,15 +1,12 @@
 -- The calls of a list: how one is drawn, and what it is to refuse. Assumes nothing.
-use Rattle.std.specs.Prelude.{Bool, true, false, cond, ◌&&◌, ℕ, ◌+◌, ◌-◌, ◌/◌, ◌%◌, eqb, ltb}
-use Rattle.refusals.specs.Outcome.{numbers_of}
-use Rattle.refusals.specs.declared.Numbers.{Numbers}
+use Rattle.std.specs.Prelude.{Bool, true, false, cond, ◌&&◌, ℕ, ◌+◌, ◌-◌, ◌/◌, ◌%◌, eqb, ltb, Option, Some, None}
+use Rattle.refusals.specs.declared.Refusal.{Refusal}
+use Rattle.refusals.specs.declared.Refusal.TheVariants.{Work, Output, Iterations, Record}
 use Rattle.ldpc.specs.Getters.{work_told}
 use Rattle.decoder.specs.declared.record.Decode.{Decode}
-use Rattle.decoder.specs.declared.record.Granted.{Granted}
-use Rattle.decoder.specs.declared.record.Granted.TheVariants as granted
-use Rattle.decoder.specs.declared.record.ReadOut.{ReadOut}
-use Rattle.decoder.specs.declared.record.ReadOut.TheVariants as read_out
 use Rattle.soak.specs.Totals.{joined}
 use Rattle.soak.specs.declared.calls.Call.{Call}
+use Rattle.soak.specs.declared.calls.Call.TheVariants.{Grant, Read}
 
 -- the iterations of a grant: 0 to 4; where some are done, more than may be; of a converged decode, as many as may be
 unfoldable pub amount_of : ℕ → Decode → ℕ
@@ -29,60 +26,38 @@ room_of draw n = cond (eqb (draw % 16) 0) (n / 2) (cond (eqb (draw % 16) 1) (joi
 -- the call that a state draws
 unfoldable pub call_of : ℕ → Decode → ℕ → Call
 call_of state d all =
-    record {
-      read = eqb (state % 3) 0;
-      g = amount_of (state / 3) d;
-      lent = lent_of (state / 24) (work_told d.code) all;
-      room = room_of (state / 384) d.code.n_tx;
-      changed = eqb (state / 6144 % 8) 5;
-    }
+    let lent = lent_of (state / 24) (work_told d.code) all in
+    let changed = eqb (state / 6144 % 8) 5 in
+    cond (eqb (state % 3) 0) (Read (room_of (state / 384) d.code.n_tx) lent changed) (Grant (amount_of (state / 3) d) lent changed)
 
 -- a read with nothing amiss
 unfoldable pub plain_of : Decode → ℕ → Call
-plain_of d all = record { read = true; g = 0; lent = all; room = d.code.n_tx; changed = false }
+plain_of d all = Read d.code.n_tx all false
+
+abbrev pub is_grant : Call → Bool
+is_grant (Grant g lent changed) = true
+is_grant (Read room lent changed) = false
 
 -- the record with half its k, which no code has
 unfoldable pub changed_of : Decode → Bool → Decode
-changed_of d changed =
-    cond changed
-    (record {
-      code = record {
-        rate = d.code.rate;
-        n_tx = d.code.n_tx;
-        family = d.code.family;
-        z = d.code.z;
-        k = d.code.k / 2;
-        shortened = d.code.shortened;
-      };
-      iterations = d.iterations;
-      converged = d.converged;
-    })
-    d
+changed_of d changed = cond changed (record d { code = record d.code { k = d.code.k / 2 } }) d
 
--- a refusal and its pair; number 0 stands for none
-abbrev pub refusal : ℕ → ℕ → ℕ → Numbers
-refusal n a b = record { number = n; first = a; second = b }
+-- a grant's order: 11, 8, 10
+unfoldable pub grant_refusal : Decode → ℕ → ℕ → Bool → Option Refusal
+grant_refusal d g lent changed =
+    cond changed (Some (Record d.code.rate d.code.n_tx))
+    (cond (ltb lent (work_told d.code)) (Some (Work lent (work_told d.code)))
+    (cond (ltb 65535 (d.iterations + g)) (Some (Iterations (d.iterations + g))) None))
 
--- 01's order for a grant: 11, 8, 10
-unfoldable pub grant_refusal : Decode → Call → Numbers
-grant_refusal d call =
-    cond call.changed (refusal 11 d.code.rate d.code.n_tx)
-    (cond (ltb call.lent (work_told d.code)) (refusal 8 call.lent (work_told d.code))
-    (cond (ltb 65535 (d.iterations + call.g)) (refusal 10 (d.iterations + call.g) 65535) (refusal 0 0 0)))
+-- a read's order: 11, 9, 8
+unfoldable pub read_refusal : Decode → ℕ → ℕ → Bool → Option Refusal
+read_refusal d room lent changed =
+    cond changed (Some (Record d.code.rate d.code.n_tx))
+    (cond (eqb room d.code.n_tx)
+    (cond (ltb lent (work_told d.code)) (Some (Work lent (work_told d.code))) None)
+    (Some (Output room d.code.n_tx)))
 
--- 01's order for a read: 11, 9, 8
-unfoldable pub read_refusal : Decode → Call → Numbers
-read_refusal d call =
-    cond call.changed (refusal 11 d.code.rate d.code.n_tx)
-    (cond (eqb call.room d.code.n_tx)
-    (cond (ltb call.lent (work_told d.code)) (refusal 8 call.lent (work_told d.code)) (refusal 0 0 0))
-    (refusal 9 call.room d.code.n_tx))
-
--- what an answer refuses
-abbrev pub refused_grant : Granted → Numbers
-refused_grant (granted.Decode d) = refusal 0 0 0
-refused_grant (granted.Refused r) = numbers_of r
-
-abbrev pub refused_read : ReadOut → Numbers
-refused_read (read_out.Result x) = refusal 0 0 0
-refused_read (read_out.Refused r) = numbers_of r
+-- what a call is to refuse
+unfoldable pub refusal_of : Decode → Call → Option Refusal
+refusal_of d (Grant g lent changed) = grant_refusal d g lent changed
+refusal_of d (Read room lent changed) = read_refusal d room lent changed

@@ -1,5 +1,5 @@
 -- How the totals are added up. Assumes nothing.
-use Rattle.std.specs.Prelude.{ℕ, ◌+◌, min, get_or, set, replicate}
+use Rattle.std.specs.Prelude.{ℕ, ◌+◌, min}
 use Rattle.soak.specs.declared.tally.Totals.{Totals}
 
 -- a sum that stays at a million million
@@ -7,8 +7,14 @@ abbrev pub joined : ℕ → ℕ → ℕ
 joined a b = min (a + b) 1000000000000
 
 abbrev pub none : Totals
-none = record { counts = replicate 8 0 }
-
--- n more of a kind
-abbrev pub added : Totals → ℕ → ℕ → Totals
-added t kind n = record { counts = set t.counts kind (joined (get_or t.counts kind 0) n) }
+none =
+    record {
+      lists = 0;
+      iterations = 0;
+      grants = 0;
+      refusals = 0;
+      reads = 0;
+      converged = 0;
+      clean = 0;
+      differences = 0;
+    }

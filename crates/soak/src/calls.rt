@@ -1,49 +1,57 @@
-// The calls of a list: how one is drawn, and what 01 has it refuse. Assumes nothing.
+// The calls of a list: how one is drawn, and what it is to refuse. Assumes nothing.
 ghost use Rattle.std.specs.Prelude.{◌≡◌};
-ghost use Rattle.soak.specs.Calls;
-ghost use Rattle.soak.specs.Calls.{amount_of, lent_of, room_of, call_of, plain_of, changed_of, grant_refusal, read_refusal, refused_grant, refused_read};
+ghost use Rattle.soak.specs.Calls.{amount_of, lent_of, room_of, call_of, plain_of, changed_of, grant_refusal, read_refusal, refusal_of, is_grant};
 
 use decoder::Decode;
 use ldpc::Code;
-use refusals::Numbers;
+use refusals::Refusal;
 
-// A grant of g, or a read into an output of `room` bytes, lent so many numbers; the record may be changed.
-#[derive(Clone, Copy)]
-pub struct Call {
-    pub read: bool,
-    pub g: u16,
-    pub lent: usize,
-    pub room: usize,
-    pub changed: bool,
+// A call of a list. It is lent so many numbers of work memory, and may get a changed record.
+#[derive(Clone, Copy, Debug, PartialEq, Eq)]
+pub enum Call {
+    // of g iterations
+    Grant {
+        g: u16,
+        lent: usize,
+        changed: bool,
+    },
+    // into an output of `room` bytes
+    Read {
+        room: usize,
+        lent: usize,
+        changed: bool,
+    },
 }
 
-// 0 to 4 iterations; more than may be done; or, of a decode that has converged, as many as may be.
+// By a drawn number, which names no kind: 0 to 4 iterations; more than may be done; or, of a decode that has converged, as
+// many as may be.
+#[tactic(auto, unfolding(crate::specs::Calls::amount_of))]
 fn amount_of(draw: usize, d: Decode) -> u16
     ensures { result ≡ amount_of draw d }
 {
-    let n = draw % 8;
-    if (n == 5) & (0 < d.iterations) {
-        return 65535;
+    match draw % 8 {
+        5 if 0 < d.iterations => 65535,
+        6 if d.converged => 65535 - d.iterations,
+        // a cast of what is below 5, where a `try_from` would have an error to take apart
+        n => (n % 5) as u16,
     }
-    if (n == 6) & d.converged {
-        return 65535 - d.iterations;
-    }
-    (n % 5) as u16
 }
 
-// Half of what is needed, one less, as much, or all there is.
+// By a drawn number: half of what is needed, one less, as much, or all there is.
+#[tactic(auto, unfolding(crate::specs::Calls::lent_of))]
 fn lent_of(draw: usize, needed: usize, all: usize) -> usize
     ensures { result ≡ lent_of draw needed all }
 {
     match draw % 16 {
         0 => needed / 2,
-        1 => needed - numbers::lesser(needed, 1),
+        1 => needed.saturating_sub(1),
         2 => needed,
         _ => all,
     }
 }
 
-// An output that is too short, too long, or right.
+// By a drawn number: an output that is too short, too long, or right.
+#[tactic(auto, unfolding(crate::specs::Calls::room_of))]
 fn room_of(draw: usize, n_tx: usize) -> usize
     ensures { result ≡ room_of draw n_tx }
 {
@@ -54,117 +62,122 @@ fn room_of(draw: usize, n_tx: usize) -> usize
     }
 }
 
-// The call that a state of the generator draws.
-pub fn call_of(state: usize, d: Decode, all: usize) -> Call
-    ensures { result ≡ call_of state d all }
-{
-    Call {
-        read: state % 3 == 0,
-        g: amount_of(state / 3, d),
-        lent: lent_of(state / 24, d.code.work_needed(), all),
-        room: room_of(state / 384, d.code.n_tx),
-        changed: state / 6144 % 8 == 5,
+impl Call {
+    // The call that a state of the generator draws.
+    #[tactic(auto, unfolding(crate::specs::Calls::call_of))]
+    pub fn of(state: usize, d: Decode, all: usize) -> Call
+        ensures { result ≡ call_of state d all }
+    {
+        let lent = lent_of(state / 24, d.code.work_needed(), all);
+        let changed = state / 6144 % 8 == 5;
+        if state % 3 == 0 {
+            let room = room_of(state / 384, d.code.n_tx);
+            Call::Read {
+                room,
+                lent,
+                changed,
+            }
+        } else {
+            let g = amount_of(state / 3, d);
+            Call::Grant { g, lent, changed }
+        }
     }
-}
 
-// A read with nothing amiss.
-pub fn plain_of(d: Decode, all: usize) -> Call
-    ensures { result ≡ plain_of d all }
-{
-    Call {
-        read: true,
-        g: 0,
-        lent: all,
-        room: d.code.n_tx,
-        changed: false,
+    // A read with nothing amiss.
+    #[tactic(auto, unfolding(crate::specs::Calls::plain_of))]
+    pub fn plain(d: Decode, all: usize) -> Call
+        ensures { result ≡ plain_of d all }
+    {
+        Call::Read {
+            room: d.code.n_tx,
+            lent: all,
+            changed: false,
+        }
+    }
+
+    pub fn is_grant(self) -> bool
+        ensures { result ≡ is_grant self }
+    {
+        matches!(self, Call::Grant { .. })
+    }
+
+    // What it is to refuse: a changed record first; then a grant too little work memory and too many iterations, a read an
+    // output of another length and too little work memory.
+    #[tactic(auto, unfolding(crate::specs::Calls::refusal_of))]
+    pub fn refusal(self, d: Decode) -> Option<Refusal>
+        ensures { result ≡ refusal_of d self }
+    {
+        match self {
+            Call::Grant { g, lent, changed } => grant_refusal(d, g, lent, changed),
+            Call::Read {
+                room,
+                lent,
+                changed,
+            } => read_refusal(d, room, lent, changed),
+        }
     }
 }
 
 // The record that a call gets: where it is to be refused, one with another k.
+#[tactic(auto, unfolding(crate::specs::Calls::changed_of))]
 pub fn changed_of(d: Decode, changed: bool) -> Decode
     ensures { result ≡ changed_of d changed }
 {
-    if !changed {
-        return d;
-    }
-    let c = d.code;
-    Decode {
-        code: Code {
-            rate: c.rate,
-            n_tx: c.n_tx,
-            family: c.family,
-            z: c.z,
-            k: c.k / 2,
-            shortened: c.shortened,
-        },
-        iterations: d.iterations,
-        converged: d.converged,
+    if changed {
+        let code = Code {
+            k: d.code.k / 2,
+            ..d.code
+        };
+        Decode { code, ..d }
+    } else {
+        d
     }
 }
 
-// A refusal and its pair; number 0 stands for none.
-fn refusal(number: usize, first: usize, second: usize) -> Numbers
-    ensures { result ≡ Calls.refusal number first second }
+#[tactic(auto, unfolding(crate::specs::Calls::grant_refusal))]
+fn grant_refusal(d: Decode, g: u16, lent: usize, changed: bool) -> Option<Refusal>
+    ensures { result ≡ grant_refusal d g lent changed }
 {
-    Numbers {
-        number: number,
-        first: first,
-        second: second,
+    let needed = d.code.work_needed();
+    let all = usize::from(d.iterations) + usize::from(g);
+    if changed {
+        Some(Refusal::Record {
+            rate: d.code.rate,
+            n_tx: d.code.n_tx,
+        })
+    } else if lent < needed {
+        Some(Refusal::Work {
+            given: lent,
+            needed,
+        })
+    } else if 65535 < all {
+        Some(Refusal::Iterations(all))
+    } else {
+        None
     }
 }
 
-// What a grant is to refuse: 11, 8, 10.
-pub fn grant_refusal(d: Decode, call: Call) -> Numbers
-    ensures { result ≡ grant_refusal d call }
+#[tactic(auto, unfolding(crate::specs::Calls::read_refusal))]
+fn read_refusal(d: Decode, room: usize, lent: usize, changed: bool) -> Option<Refusal>
+    ensures { result ≡ read_refusal d room lent changed }
 {
-    let c = d.code;
-    if call.changed {
-        return refusal(11, c.rate, c.n_tx);
-    }
-    let needed = c.work_needed();
-    if call.lent < needed {
-        return refusal(8, call.lent, needed);
-    }
-    let all = (d.iterations as usize) + (call.g as usize);
-    if 65535 < all {
-        return refusal(10, all, 65535);
-    }
-    refusal(0, 0, 0)
-}
-
-// What a read is to refuse: 11, 9, 8.
-pub fn read_refusal(d: Decode, call: Call) -> Numbers
-    ensures { result ≡ read_refusal d call }
-{
-    let c = d.code;
-    if call.changed {
-        return refusal(11, c.rate, c.n_tx);
-    }
-    if call.room != c.n_tx {
-        return refusal(9, call.room, c.n_tx);
-    }
-    let needed = c.work_needed();
-    if call.lent < needed {
-        return refusal(8, call.lent, needed);
-    }
-    refusal(0, 0, 0)
-}
-
-// What an answer refuses.
-pub fn refused_grant(answer: Result<Decode, Refusal>) -> Numbers
-    ensures { result ≡ refused_grant answer }
-{
-    match answer {
-        Ok(_) => refusal(0, 0, 0),
-        Err(r) => r.numbers(),
-    }
-}
-
-pub fn refused_read(answer: Result<DecodeResult, Refusal>) -> Numbers
-    ensures { result ≡ refused_read answer }
-{
-    match answer {
-        Ok(_) => refusal(0, 0, 0),
-        Err(r) => r.numbers(),
+    let needed = d.code.work_needed();
+    if changed {
+        Some(Refusal::Record {
+            rate: d.code.rate,
+            n_tx: d.code.n_tx,
+        })
+    } else if room != d.code.n_tx {
+        Some(Refusal::Output {
+            given: room,
+            wanted: d.code.n_tx,
+        })
+    } else if lent < needed {
+        Some(Refusal::Work {
+            given: lent,
+            needed,
+        })
+    } else {
+        None
     }
 }

@@ -1,73 +1,53 @@
 // Comparisons: how many places differ. Assumes nothing.
-ghost use Rattle.std.specs.Prelude.{◌≡◌};
-ghost use Rattle.soak.specs.Compare.{same_number, numbers_apart, bytes_apart, results_apart, refusals_apart};
+ghost use Rattle.std.specs.Prelude.{◌≡◌, ◌≤◌, Bool, eqb, length, min};
+ghost use Rattle.soak.specs.Compare.{same_number, differing, apart_by};
 
-use decoder::DecodeResult;
-use refusals::Numbers;
+// A number that is compared by its bits.
+pub trait Bitwise: Copy {
+    ghost same: { Self → Self → Bool };
 
-// Whether two numbers are the same, by their bits: +0 and -0 are not, and NaNs are, whatever their bits.
-fn same(a: f32, b: f32) -> bool
-    ensures { result ≡ same_number a b }
-{
-    if a != a {
-        return b != b;
-    }
-    if b != b {
-        return false;
-    }
-    f32::to_bits(a) == f32::to_bits(b)
+    fn same(self, other: Self) -> bool
+        ensures { result ≡ same self other };
 }
 
-// The places of two memories that differ; those that only one has count too.
-pub fn numbers_apart(a: &[f32], b: &[f32]) -> usize
-    ensures { result ≡ numbers_apart a.now b.now }
-{
-    let n = numbers::lesser(a.len(), b.len());
-    let mut apart = 0;
-    let mut i = 0;
-    while i < n {
-        if !same(a[i], b[i]) {
-            apart += 1;
+impl Bitwise for u8 {
+    ghost same = { eqb };
+
+    fn same(self, other: u8) -> bool {
+        self == other
+    }
+}
+
+// By hand, as `==` has it otherwise: +0 and -0 are not the same, and NaNs are, whatever their bits.
+impl Bitwise for f32 {
+    ghost same = { same_number };
+
+    #[tactic(auto, using(crate::proofs::Same::nan_same, crate::proofs::Same::nan_other), unfolding(crate::specs::Compare::same_number))]
+    fn same(self, other: f32) -> bool {
+        if self.is_nan() {
+            return other.is_nan();
         }
-        i += 1;
-    }
-    apart + (a.len() - n) + (b.len() - n)
-}
-
-// The same of two outputs.
-pub fn bytes_apart(a: &[u8], b: &[u8]) -> usize
-    ensures { result ≡ bytes_apart a.now b.now }
-{
-    let n = numbers::lesser(a.len(), b.len());
-    let mut apart = 0;
-    let mut i = 0;
-    while i < n {
-        if a[i] != b[i] {
-            apart += 1;
+        if other.is_nan() {
+            return false;
         }
-        i += 1;
-    }
-    apart + (a.len() - n) + (b.len() - n)
-}
-
-// 1 where two results differ, else 0.
-pub fn results_apart(a: DecodeResult, b: DecodeResult) -> usize
-    ensures { result ≡ results_apart a b }
-{
-    if (a.iterations == b.iterations) & (a.converged == b.converged) & (a.clean == b.clean) {
-        0
-    } else {
-        1
+        self.to_bits() == other.to_bits()
     }
 }
 
-// 1 where two refusals differ, else 0.
-pub fn refusals_apart(a: Numbers, b: Numbers) -> usize
-    ensures { result ≡ refusals_apart a b }
+// At how many places that both have two slices differ.
+#[tactic(auto, unfolding(crate::specs::Compare::differing))]
+fn differing<T: Bitwise>(a: &[T], b: &[T]) -> usize
+    ensures value { result ≡ differing T.same a.now b.now }
+    ensures bound { result ≤ min (length a.now) (length b.now) }
 {
-    if (a.number == b.number) & (a.first == b.first) & (a.second == b.second) {
-        0
-    } else {
-        1
-    }
+    a.iter().zip(b).filter(|(x, y)| !x.same(**y)).count()
+}
+
+// The places of two slices that differ; those that only one has count too.
+#[tactic(auto, unfolding(crate::specs::Compare::apart_by))]
+pub fn apart<T: Bitwise>(a: &[T], b: &[T]) -> usize
+    ensures { result ≡ apart_by T.same a.now b.now }
+{
+    let n = a.len().min(b.len());
+    differing(a, b) + (a.len() - n) + (b.len() - n)
 }

@@ -14,7 +14,8 @@ pub fn fill_inputs(c: Code, seed: usize, info: &mut [u8], word: &mut [u8], rx: &
     ensures rx_after { rx.new ≡ readings_of (seed % 6) seed (encode_written c (random_bits seed (length info.old)) word.old) (length rx.old) }
 {
     readings::fill_bits(info, seed);
-    coder::encode(c, info, word);
+    // A refused encoding leaves the word as it was.
+    let _ = coder::encode(c, info, word);
     readings::fill_readings(seed % 6, seed, word, rx);
 }
 

@@ -8,12 +8,7 @@ pub loop-i-init : goal.loop-i-init
 loop-i-init c = begun
 
 pub loop-i-preserved : goal.loop-i-preserved
-loop-i-preserved c =
-    turn _ _ c.loop-i.invariant (search rules) c.next_state-state.ensures
-    (rw (c.reading.ensures, c.bit_at.ensures))
-
-pub shape_of-out : goal.shape_of-out
-shape_of-out c = c.loop-i.invariant.written.long
+loop-i-preserved c = turn _ _ c.loop-i.invariant (search rules) c.next_state-state.ensures (search rules)
 
 pub returns : goal.returns
 unfolding readings_of

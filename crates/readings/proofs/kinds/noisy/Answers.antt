@@ -5,4 +5,4 @@ use Rattle.readings.proofs.kinds.noisy.Goals as goal
 
 pub returns : goal.returns
 unfolding noisy_of Ieee.of_bits
-returns c = rw (c.turned.ensures, c.is_one.ensures)
+returns c = rw (c.turned.ensures, c.from.ensures)

@@ -1,5 +1,0 @@
--- `refused_read` meets its contract. Assumes nothing.
-use Rattle.soak.proofs.calls.refused_read.Goals as goal
-
-pub returns-in-Ok : goal.returns-in-Ok
-returns-in-Ok c = rw (c.refusal.ensures, c.in-Ok.is)

@@ -1,9 +1,0 @@
--- `soak_spread` meets its contract. Assumes nothing.
-use Prim.Native.Nat.{◌-◌, ◌≤◌}
-use Rattle.soak.proofs.soak_spread.Given as goal
-
-abbrev pub invariant-loop-i : goal.invariant-loop-i
-invariant-loop-i l = l.i ≤ 25
-
-abbrev pub decreases-loop-i : goal.decreases-loop-i
-decreases-loop-i l = 25 - l.i
