@@ -4,19 +4,14 @@ ghost use Rattle.laws.specs.Written.{tabulate};
 ghost use Rattle.designs.specs.Inputs.{seed_of, some_row, row_at, shift_at};
 
 // A seed from the bytes of a text.
+#[tactic(auto, unfolding(crate::specs::Inputs::seed_of))]
 pub fn seed_of(text: &[u8]) -> u64
     ensures { result ≡ seed_of text.now }
 {
-    let mut state: u64 = 0;
-    let mut i = 0;
-    while i < text.len() {
-        let x = numbers::wide8(text[i]);
-        state = shifts::next_state(std::num::wrapping_add_u64(state, x as u64));
-        i += 1;
-    }
-    state
+    text.iter().fold(0, |state: u64, x| shifts::next_state(state.wrapping_add(u64::from(*x))))
 }
 
+#[tactic(auto, using(crate::proofs::Drawn::square), unfolding(crate::specs::Inputs::some_row))]
 fn some_row(m: usize, seed: usize, c: usize) -> usize
     requires { (3 ≤ m) × (seed < 1000) × (c < 61) }
     ensures { result ≡ some_row m seed c }
@@ -24,25 +19,26 @@ fn some_row(m: usize, seed: usize, c: usize) -> usize
     (seed + c * c * 7 + c) % m
 }
 
-fn row_at(m: usize, seed: usize, p: usize) -> usize
+#[tactic(auto, using(crate::proofs::Drawn::some_row_lt, crate::proofs::Drawn::row_lt), unfolding(crate::specs::Inputs::row_at))]
+fn row_at(m: usize, seed: usize, p: usize) -> u8
     requires { (3 ≤ m) × (m ≤ 64) × (seed < 1000) × (p < 183) }
     ensures { result ≡ row_at m seed p }
 {
     let a = some_row(m, seed, p / 3);
-    if p % 3 == 0 {
-        return a;
-    }
-    if p % 3 == 1 {
-        return (a + 1 + (seed * 3 + p / 3 * 5) % (m - 2)) % m;
-    }
-    (a + m - 1) % m
+    let row = match p % 3 {
+        0 => a,
+        1 => (a + 1 + (seed * 3 + p / 3 * 5) % (m - 2)) % m,
+        _ => (a + m - 1) % m,
+    };
+    row as u8
 }
 
-fn shift_at(seed: usize, p: usize) -> usize
+#[tactic(auto, using(crate::proofs::Drawn::square), unfolding(crate::specs::Inputs::shift_at))]
+fn shift_at(seed: usize, p: usize) -> u16
     requires { (seed < 1000) × (p < 183) }
     ensures { result ≡ shift_at seed p }
 {
-    (seed * 7919 + p * p * 31 + p * 104729) % 65536
+    ((seed * 7919 + p * p * 31 + p * 104729) % 65536) as u16
 }
 
 // Fills the columns of a graph with m base rows.
@@ -51,10 +47,8 @@ pub fn fill_columns(m: usize, seed: usize, rows: &mut [u8], shifts: &mut [u16])
     ensures rows_after { rows.new ≡ tabulate (row_at m seed) (length rows.old) }
     ensures shifts_after { shifts.new ≡ tabulate (shift_at seed) (length shifts.old) }
 {
-    let mut p = 0;
-    while p < rows.len() {
-        rows[p] = row_at(m, seed, p) as u8;
-        shifts[p] = shift_at(seed, p) as u16;
-        p += 1;
+    for p in 0..rows.len() {
+        rows[p] = row_at(m, seed, p);
+        shifts[p] = shift_at(seed, p);
     }
 }

@@ -1,10 +1,11 @@
--- `fill_columns` meets its contract. Assumes nothing.
-use Rattle.std.proofs.Common.{◌-◌, length}
-use Rattle.designs.proofs.Drawn.{Drawn}
+-- `fill_columns` meets its contract. The invariant: the places below p are written. Assumes nothing.
+use Rattle.std.proofs.Common.{ℕ, ◌≡◌, ◌<◌, ◌≤◌, length, get_or}
+use Rattle.designs.specs.Inputs.{row_at, shift_at}
 use Rattle.designs.proofs.inputs.fill_columns.Given as goal
 
 abbrev pub invariant-loop-p : goal.invariant-loop-p
-invariant-loop-p l = Drawn l.m l.seed l.initial.rows l.initial.shifts l.rows l.shifts l.p
-
-abbrev pub decreases-loop-p : goal.decreases-loop-p
-decreases-loop-p l = length l.initial.rows - l.p
+invariant-loop-p l =
+    (length l.rows ≡ length l.initial.rows)
+    × (length l.shifts ≡ length l.initial.shifts)
+    × ((k : ℕ) → k < l.p → get_or l.rows k 0 ≡ row_at l.m l.seed k)
+    × ((k : ℕ) → k < l.p → get_or l.shifts k 0 ≡ shift_at l.seed k)
