@@ -28,11 +28,21 @@ const CHOICES: [(&str, usize, usize); 10] = [
 const LONG_CHOICES: [(&str, usize, usize); 3] = [("", 0, 61), ("", 0, 19440), ("", 0, 19441)];
 
 // The rows of encodings: the rate, n_tx and the information.
-const ENCODINGS: [(usize, usize, &[u8]); 3] = [(5, 10, &[1, 0, 0]), (5, 10, &[0, 1, 0]), (5, 22, &[1])];
+const ENCODINGS: [(usize, usize, &[u8]); 3] = [
+    (5, 10, &[1, 0, 0]),
+    (5, 10, &[0, 1, 0]),
+    (5, 22, &[1]),
+];
 
 fn print_choices(rt: &impl Print, rows: &[(&str, usize, usize)]) -> Result<()> {
     for (star, rate, n_tx) in rows {
-        println!(rt; "{star}{}", Choice { rate: *rate, n_tx: *n_tx })?;
+        println!(rt;
+            "{star}{}",
+            Choice {
+                rate: *rate,
+                n_tx: *n_tx
+            }
+        )?;
     }
     Ok(())
 }
@@ -59,7 +69,11 @@ fn print_four_cycles(rt: &impl Print) -> Result<()> {
 
 fn main(rt: HostRuntime) -> Result<()> {
     print_choices(&rt, &CHOICES)?;
-    println!(rt; "{}, as {}", Choice { rate: 9, n_tx: 10 }, Choice { rate: 5, n_tx: 10 })?;
+    println!(rt;
+        "{}, as {}",
+        Choice { rate: 9, n_tx: 10 },
+        Choice { rate: 5, n_tx: 10 }
+    )?;
     print_choices(&rt, &LONG_CHOICES)?;
     print_encodings(&rt)?;
     decodes::print_decodes(&rt)?;

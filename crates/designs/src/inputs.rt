@@ -8,7 +8,10 @@ ghost use Rattle.designs.specs.Inputs.{seed_of, some_row, row_at, shift_at};
 pub fn seed_of(text: &[u8]) -> u64
     ensures { result ≡ seed_of text.now }
 {
-    text.iter().fold(0, |state: u64, x| shifts::next_state(state.wrapping_add(u64::from(*x))))
+    text.iter().fold(
+        0,
+        |state: u64, x| shifts::next_state(state.wrapping_add(u64::from(*x))),
+    )
 }
 
 #[tactic(auto, using(crate::proofs::Drawn::square), unfolding(crate::specs::Inputs::some_row))]

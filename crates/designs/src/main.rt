@@ -16,13 +16,22 @@ const LIFTS: [usize; 5] = [1, 2, 5, 32, 65535];
 
 // Builds the graph of a shape and prints its line.
 #[tactic(auto, using(crate::proofs::Drawn::few))]
-fn print_shape(rt: &(impl Print + AllocGlobal), n_b: usize, percent: usize, seed: u64) -> Result<()> {
+fn print_shape(
+    rt: &(impl Print + AllocGlobal),
+    n_b: usize,
+    percent: usize,
+    seed: u64,
+) -> Result<()> {
     let k_b = graph::information_columns(n_b, percent)?;
     let n = 3 * k_b;
     let mut rows = vec![in rt.alloc(); 0u8; n]?;
     let mut shifts = vec![in rt.alloc(); 0u16; n]?;
     graph::build(n_b, percent, seed, &mut rows, &mut shifts)?;
-    print!(rt; "{n_b} {percent} {k_b} {} {}", checksum(&rows), checksum(&shifts))?;
+    print!(rt;
+        "{n_b} {percent} {k_b} {} {}",
+        checksum(&rows),
+        checksum(&shifts)
+    )?;
     for z in LIFTS {
         let cycles = graph::four_cycles(n_b, k_b, &rows, &shifts, z)?;
         print!(rt; " {cycles}")?;

@@ -75,7 +75,11 @@ fn print_cycles(rt: &impl Print) -> Result<()> {
         (six, &shifts, 1),
     ] {
         let answer = Answer(graph::four_cycles(5, 2, rows, shifts, z));
-        println!(rt; "cycles 5 2 of {} and {} at {z}: {answer}", rows.len(), shifts.len())?;
+        println!(rt;
+            "cycles 5 2 of {} and {} at {z}: {answer}",
+            rows.len(),
+            shifts.len()
+        )?;
     }
     Ok(())
 }

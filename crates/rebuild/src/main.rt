@@ -35,9 +35,20 @@ fn print_graph(rt: &(impl Print + AllocGlobal), rate: usize, family: usize) -> R
     let mut shifts = vec![in rt.alloc(); 0u16; n]?;
     let percent = 85 - 10 * rate;
     graph::build(n_b, percent, table_seed(rate, n_b), &mut rows, &mut shifts)?;
-    let built = Columns { count, rows: &rows, shifts: &shifts };
-    let stored = Columns { count, rows: &table.rows[..n], shifts: &table.shifts[..n] };
-    print!(rt; "{family} {rate} differ {} cycles", compared::columns_differ(&built, &stored))?;
+    let built = Columns {
+        count,
+        rows: &rows,
+        shifts: &shifts,
+    };
+    let stored = Columns {
+        count,
+        rows: &table.rows[..n],
+        shifts: &table.shifts[..n],
+    };
+    print!(rt;
+        "{family} {rate} differ {} cycles",
+        compared::columns_differ(&built, &stored)
+    )?;
     for z in LIFTS {
         let cycles = graph::four_cycles(n_b, count, built.rows, built.shifts, z)?;
         print!(rt; " {cycles}")?;
