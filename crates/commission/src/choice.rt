@@ -9,7 +9,7 @@ pub struct Choice {
     pub n_tx: usize,
 }
 
-// A code's record has its family as a number.
+// The family is a number, as records are plain numbers.
 fn family_name(family: usize) -> &'static str {
     match family {
         0 => "large",

@@ -9,6 +9,7 @@ mod refused;
 ghost use Rattle.std.specs.Prelude.{◌<◌, ◌≤◌};
 
 use anyhow::Result;
+use inputs::Computed;
 use readings::checksum;
 use std::io::Read;
 
@@ -61,7 +62,11 @@ fn print_computed(rt: &(impl Print + AllocGlobal), i: usize) -> Result<()>
     let z = 1 + i * i % 40;
     let mut rows = vec![in rt.alloc(); 0u8; 3 * k_b]?;
     let mut shifts = vec![in rt.alloc(); 0u16; 3 * k_b]?;
-    inputs::fill_columns(n_b - k_b, i + 1, &mut rows, &mut shifts);
+    let computed = Computed {
+        m_b: n_b - k_b,
+        seed: i + 1,
+    };
+    computed.fill_columns(&mut rows, &mut shifts);
     let cycles = graph::four_cycles(n_b, k_b, &rows, &shifts, z)?;
     println!(rt; "{n_b} {k_b} {z} cycles {cycles}")?;
     Ok(())

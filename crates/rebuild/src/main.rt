@@ -13,7 +13,7 @@ use columns::Columns;
 
 const LIFTS: [usize; 5] = [2, 8, 32, 128, 324];
 
-// The seed of the graph of a rate on n_b base columns. A usize widens to a u64 by `as` alone.
+// The seed of the graph of a rate on n_b base columns. By `as`, since the library has no `From` of a usize.
 #[tactic(auto, unfolding(crate::specs::Compared::table_seed))]
 fn table_seed(rate: usize, n_b: usize) -> u64
     requires { (rate ≤ 5) × (n_b ≤ 60) }
@@ -22,7 +22,8 @@ fn table_seed(rate: usize, n_b: usize) -> u64
     (0x5EED0000 + 977 * rate + n_b) as u64
 }
 
-// Builds the graph of a rate and a family anew, at 85, 75, 65, 55, 45 or 35 percent. The largest have 51 information columns.
+// Builds the graph of a rate and a family anew, at 85, 75, 65, 55, 45 or 35 percent. The family is a number,
+// as the table's calls take any.
 #[tactic(auto, using(tables::proofs::Sizes::shaped), unfolding(tables::specs::Graph::graph_of))]
 fn print_graph(rt: &(impl Print + AllocGlobal), rate: usize, family: usize) -> Result<()>
     requires { rate ≤ 5 }

@@ -1,7 +1,7 @@
 -- `fill_columns` meets its contract: each place is written. Assumes nothing.
 use Rattle.std.proofs.Common.{arith}
 use Rattle.laws.proofs.Written.{tabulated}
-use Rattle.designs.proofs.inputs.fill_columns.Goals as goal
+use Rattle.designs.proofs.inputs.Computed.fill_columns.Goals as goal
 
 pub returns-clause-rows_after : goal.returns-clause-rows_after
 returns-clause-rows_after c =
