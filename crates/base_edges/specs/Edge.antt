@@ -1,12 +1,9 @@
--- A base edge as a record, and a graph put together from what is lent. Assumes nothing.
-use Rattle.std.specs.Prelude.{List, ℕ, ◌+◌, ◌*◌}
+-- A base edge as a record. Assumes nothing.
+use Rattle.std.specs.Prelude.{ℕ, ◌+◌, ◌*◌}
 use Rattle.tables.specs.declared.Shape.{Shape}
 use Rattle.tables.specs.declared.BaseGraph.{BaseGraph}
 use Rattle.matrix.specs.Edges.{edge_row, edge_column, edge_shift}
 use Rattle.base_edges.specs.declared.Edge.{Edge}
-
-abbrev pub graph_in : Shape → List ℕ → List ℕ → BaseGraph
-graph_in s rows shifts = record { shape = s; rows = rows; shifts = shifts }
 
 -- how many base edges a shape has
 abbrev pub edges_in : Shape → ℕ

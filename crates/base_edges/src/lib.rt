@@ -1,14 +1,14 @@
-// The base edges of a graph, and the bit that one joins to a check: 01, "Base edges". What a function requires, its callers meet, in
-// the crates of codes above.
+// The base edges of a graph, and the bit that one joins to a check. What a function requires, its callers meet, in the crates of codes
+// above.
 #![tactic(auto)]
 
 ghost use Rattle.std.specs.Prelude.{◌≡◌, ◌+◌, ◌*◌, ◌%◌, ◌<◌, ◌≤◌};
-ghost use Rattle.base_edges.specs.Edge.{graph_in, edge_of, edges_in};
+ghost use Rattle.base_edges.specs.Edge.{edge_of, edges_in};
 
-use tables::Shape;
+use tables::BaseGraph;
 
 // A base edge: its row, its column and its shift.
-#[derive(Clone, Copy)]
+#[derive(Clone, Copy, Debug, PartialEq, Eq)]
 pub struct Edge {
     pub row: usize,
     pub column: usize,
@@ -26,60 +26,35 @@ pub fn rotated(t: usize, shift: usize, z: usize) -> usize
     (t + shift) % z
 }
 
-// Base edge b of a graph whose lists are lent, in an information column. `s` is here for the contract alone.
-pub fn info_edge<'a>(s: Shape, rows: &'a [u8; 153], shifts: &'a [u16; 153], b: usize) -> Edge
-    requires { (s.k_b ≤ 51) × (b < 3 * s.k_b) }
-    ensures { result ≡ edge_of (graph_in s rows.now shifts.now) b }
+// Base edge b, in an information column.
+pub fn info_edge(g: &BaseGraph, b: usize) -> Edge
+    requires { (g.now.shape.k_b ≤ 51) × (b < 3 * g.now.shape.k_b) }
+    ensures { result ≡ edge_of g.now b }
 {
     Edge {
-        row: numbers::wide8(rows[b]),
+        row: usize::from(g.rows[b]),
         column: b / 3,
-        shift: numbers::wide16(shifts[b]),
+        shift: usize::from(g.shifts[b]),
     }
 }
 
-// Base edge b of a graph whose lists are lent.
-pub fn edge_at<'a>(s: Shape, rows: &'a [u8; 153], shifts: &'a [u16; 153], b: usize) -> Edge
-    requires { (s.k_b ≤ 51) × (s.m_b ≤ 39) × (1 ≤ s.m_b) × (b < edges_in s) }
-    ensures { result ≡ edge_of (graph_in s rows.now shifts.now) b }
+// Base edge b.
+pub fn edge_at(g: &BaseGraph, b: usize) -> Edge
+    requires { (g.now.shape.k_b ≤ 51) × (g.now.shape.m_b ≤ 39) × (1 ≤ g.now.shape.m_b) × (b < edges_in g.now.shape) }
+    ensures { result ≡ edge_of g.now b }
 {
+    let s = g.shape;
     let info = 3 * s.k_b;
     if b < info {
-        return info_edge(s, rows, shifts, b);
+        return info_edge(g, b);
     }
     let p = b - info;
-    if p == 0 {
-        return Edge {
-            row: 0,
-            column: s.k_b,
-            shift: 0,
-        };
-    }
-    if p == 1 {
-        return Edge {
-            row: s.m_b - 1,
-            column: s.k_b,
-            shift: 0,
-        };
-    }
-    if p == 2 {
-        return Edge {
-            row: s.m_b / 2,
-            column: s.k_b,
-            shift: 1,
-        };
-    }
-    let j = (p - 1) / 2;
-    if p % 2 == 1 {
-        return Edge {
-            row: j,
-            column: s.k_b + j,
-            shift: 0,
-        };
-    }
-    Edge {
-        row: j - 1,
-        column: s.k_b + j,
-        shift: 0,
-    }
+    let (row, column, shift) = match p {
+        0 => (0, s.k_b, 0),
+        1 => (s.m_b - 1, s.k_b, 0),
+        2 => (s.m_b / 2, s.k_b, 1),
+        _ if p % 2 == 1 => ((p - 1) / 2, s.k_b + (p - 1) / 2, 0),
+        _ => ((p - 1) / 2 - 1, s.k_b + (p - 1) / 2, 0),
+    };
+    Edge { row, column, shift }
 }

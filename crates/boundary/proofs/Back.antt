@@ -25,7 +25,7 @@ bit_fits : (b : Bool) → ltb (bit b) 2 ≡ true
 bit_fits true = refl
 bit_fits false = refl
 
--- so a record that a call gave is refused by none as numbers that are no record
+-- so a record that a call Ok is refused by none as numbers that are no record
 pub decode_is : (d : Decode) → d.iterations < 65536 → is_decode (decode_numbers d) ≡ true
 unfolding code_numbers decode_numbers is_decode
 decode_is d h = rw (lt-ltb d.iterations 65536 h) (bit_fits d.converged)

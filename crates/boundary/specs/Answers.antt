@@ -1,6 +1,7 @@
 -- Records and answers as plain numbers in lent slices, for the C boundary. Assumes nothing.
+use Rattle.std.specs.Prelude.{Ok}
 use Rattle.std.specs.Prelude.{Bool, cond, ◌&&◌, List, ◌∷◌, [], ◌++◌, ℕ, ltb, eqb, length, get_or, drop}
-use Rattle.refusals.specs.Told.{Told, gave, refused, if_length}
+use Rattle.refusals.specs.Outcome.{Outcome, refused, if_length}
 use Rattle.matrix.specs.Encoding.{bit}
 use Rattle.ldpc.specs.declared.choice.Code.{Code}
 use Rattle.ldpc.specs.Code.{work_of}
@@ -46,13 +47,13 @@ abbrev pub none : {A : Type 0} → A → List ℕ
 none x = []
 
 -- a call's number: 0, or its refusal's
-abbrev pub number_told : {A : Type 0} → Told A → ℕ
-number_told (gave a) = 0
+abbrev pub number_told : {A : Type 0} → Outcome A → ℕ
+number_told (Ok a) = 0
 number_told (refused n p q) = n
 
 -- what it tells beside: its results, or the refusal's pair
-abbrev pub numbers_told : {A : Type 0} → (A → List ℕ) → Told A → List ℕ
-numbers_told results (gave a) = results a
+abbrev pub numbers_told : {A : Type 0} → (A → List ℕ) → Outcome A → List ℕ
+numbers_told results (Ok a) = results a
 numbers_told results (refused n p q) = p ∷ q ∷ []
 
 -- numbers put to the front of a list
@@ -60,28 +61,28 @@ unfoldable pub front : List ℕ → List ℕ → List ℕ
 front numbers list = numbers ++ drop (length numbers) list
 
 -- the answer's 3 numbers after a call; an answer of another size is left as it is
-unfoldable pub answered : {A : Type 0} → (A → List ℕ) → Told A → List ℕ → List ℕ
+unfoldable pub answered : {A : Type 0} → (A → List ℕ) → Outcome A → List ℕ → List ℕ
 answered results t answer = cond (eqb (length answer) 3) (front (numbers_told results t) answer) answer
 
--- what stands after a call that writes something made of what it gave
-abbrev pub after_by : {A B : Type 0} → Told A → (A → B) → B → B
-after_by (gave a) f kept = f a
+-- what stands after a call that writes something made of what it Ok
+abbrev pub after_by : {A B : Type 0} → Outcome A → (A → B) → B → B
+after_by (Ok a) f kept = f a
 after_by (refused n p q) f kept = kept
 
 -- the slices of fixed size, before all else: the answer (9), a record that is read (5)
-unfoldable pub if_answer : {A : Type 0} → ℕ → Told A → Told A
+unfoldable pub if_answer : {A : Type 0} → ℕ → Outcome A → Outcome A
 if_answer room rest = if_length 9 room 3 rest
 
-unfoldable pub if_code : {A : Type 0} → List ℕ → (Code → Told A) → Told A
+unfoldable pub if_code : {A : Type 0} → List ℕ → (Code → Outcome A) → Outcome A
 if_code r rest = if_length 5 (length r) 6 (rest (code_in r))
 
 -- numbers that are no decode record are a record that Choice does not give: 11
-unfoldable pub if_decode : {A : Type 0} → List ℕ → (Decode → Told A) → Told A
+unfoldable pub if_decode : {A : Type 0} → List ℕ → (Decode → Outcome A) → Outcome A
 if_decode r rest = if_length 5 (length r) 8 (cond (is_decode r) (rest (decode_in r)) (refused 11 (get_or r 0 0) (get_or r 1 0)))
 
 -- work_needed and the effective rate as calls: 11; 11, 9
-unfoldable pub work_told : Code → Told ℕ
-work_told c = if_made c (gave (work_of c))
+unfoldable pub work_told : Code → Outcome ℕ
+work_told c = if_made c (Ok (work_of c))
 
-unfoldable pub put_told : Code → ℕ → Told (Unit {0})
-put_told c room = if_made c (if_length 9 room 1 (gave tt))
+unfoldable pub put_told : Code → ℕ → Outcome (Unit {0})
+put_told c room = if_made c (if_length 9 room 1 (Ok tt))

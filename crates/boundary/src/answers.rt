@@ -1,11 +1,9 @@
 // What a call answers, told in numbers: 0 and the results, or the refusal's number and its pair.
 ghost use Rattle.std.specs.Prelude.{◌≡◌, ◌∷◌, [], length};
-ghost use Rattle.refusals.specs.Told.{numbers_of, told_count, told_done};
-ghost use Rattle.decoder.specs.Calls.{told_decode, told_result};
+ghost use Rattle.refusals.specs.Outcome.{numbers_of, outcome};
 ghost use Rattle.boundary.specs.Answers.{decode_numbers, result_numbers, one, none, number_told, numbers_told, front, after_by};
 
-use decoder::{Granted, ReadOut};
-use refusals::{Counted, Filled, Refusal};
+use refusals::Refusal;
 
 // Tells a refusal's pair, and answers its number.
 pub fn refuse(refusal: Refusal, answer: &mut [usize]) -> usize
@@ -20,61 +18,61 @@ pub fn refuse(refusal: Refusal, answer: &mut [usize]) -> usize
 }
 
 // The answer of a call that only fills what it is lent.
-pub fn filled(f: Filled, answer: &mut [usize]) -> usize
+pub fn filled(f: Result<(), Refusal>, answer: &mut [usize]) -> usize
     requires { length answer.old ≡ 3 }
-    ensures value { result ≡ number_told (told_done f) }
-    ensures answer_after { answer.new ≡ front (numbers_told none (told_done f)) answer.old }
+    ensures value { result ≡ number_told (outcome f) }
+    ensures answer_after { answer.new ≡ front (numbers_told none (outcome f)) answer.old }
 {
     match f {
-        Filled::Done => 0,
-        Filled::Refused(r) => refuse(r, answer),
+        Ok(()) => 0,
+        Err(r) => refuse(r, answer),
     }
 }
 
 // The answer of a call that counts.
-pub fn counted(count: Counted, answer: &mut [usize]) -> usize
+pub fn counted(count: Result<usize, Refusal>, answer: &mut [usize]) -> usize
     requires { length answer.old ≡ 3 }
-    ensures value { result ≡ number_told (told_count count) }
-    ensures answer_after { answer.new ≡ front (numbers_told one (told_count count)) answer.old }
+    ensures value { result ≡ number_told (outcome count) }
+    ensures answer_after { answer.new ≡ front (numbers_told one (outcome count)) answer.old }
 {
     match count {
-        Counted::Count(n) => {
+        Ok(n) => {
             answer[0] = n;
             0
         }
-        Counted::Refused(r) => refuse(r, answer),
+        Err(r) => refuse(r, answer),
     }
 }
 
 // The answer of a read.
-pub fn result(read: ReadOut, answer: &mut [usize]) -> usize
+pub fn result(read: Result<DecodeResult, Refusal>, answer: &mut [usize]) -> usize
     requires { length answer.old ≡ 3 }
-    ensures value { result ≡ number_told (told_result read) }
-    ensures answer_after { answer.new ≡ front (numbers_told result_numbers (told_result read)) answer.old }
+    ensures value { result ≡ number_told (outcome read) }
+    ensures answer_after { answer.new ≡ front (numbers_told result_numbers (outcome read)) answer.old }
 {
     match read {
-        ReadOut::Result(x) => {
+        Ok(x) => {
             answer[0] = x.iterations as usize;
             answer[1] = crate::records::bit_of(x.converged);
             answer[2] = crate::records::bit_of(x.clean);
             0
         }
-        ReadOut::Refused(r) => refuse(r, answer),
+        Err(r) => refuse(r, answer),
     }
 }
 
 // The answer of a start or a grant, whose record is written.
-pub fn granted(more: Granted, fields: &mut [usize], answer: &mut [usize]) -> usize
+pub fn granted(more: Result<Decode, Refusal>, fields: &mut [usize], answer: &mut [usize]) -> usize
     requires { (length fields.old ≡ 8) × (length answer.old ≡ 3) }
-    ensures value { result ≡ number_told (told_decode more) }
-    ensures fields_after { fields.new ≡ after_by (told_decode more) decode_numbers fields.old }
-    ensures answer_after { answer.new ≡ front (numbers_told none (told_decode more)) answer.old }
+    ensures value { result ≡ number_told (outcome more) }
+    ensures fields_after { fields.new ≡ after_by (outcome more) decode_numbers fields.old }
+    ensures answer_after { answer.new ≡ front (numbers_told none (outcome more)) answer.old }
 {
     match more {
-        Granted::Decode(d) => {
+        Ok(d) => {
             crate::records::put_decode(d, fields);
             0
         }
-        Granted::Refused(r) => refuse(r, answer),
+        Err(r) => refuse(r, answer),
     }
 }

@@ -28,24 +28,24 @@ fn member_at<'a>(
     shifts: &'a [u16; 153],
     check: usize,
     b: usize,
-) -> Sent
+) -> Option<usize>
     requires { (made c ≡ true) × (graph_in s rows.now shifts.now ≡ code_graph c) × (b < edges (code_graph c)) }
     ensures { result ≡ member_at c check b }
 {
     let z = c.z;
     let e = base_edges::edge_at(s, rows, shifts, b);
     if e.row != check / z {
-        return Sent::None;
+        return None;
     }
     let v = e.column * z + base_edges::rotated(check % z, e.shift, z);
     if v < c.k {
-        return Sent::Place(v);
+        return Some(v);
     }
     let info = s.k_b * z;
     if v < info {
-        return Sent::None;
+        return None;
     }
-    Sent::Place(c.k + (v - info))
+    Some(c.k + (v - info))
 }
 
 // How many members a check has.
@@ -64,7 +64,7 @@ pub fn count_members<'a>(
     let mut b = 0;
     while b < n {
         let m = member_at(c, s, rows, shifts, check, b);
-        if let Sent::Place(_) = m {
+        if let Some(_) = m {
             count += 1;
         }
         b += 1;
@@ -90,7 +90,7 @@ pub fn write_members<'a>(
     let mut b = 0;
     while b < n {
         let m = member_at(c, s, rows, shifts, check, b);
-        if let Sent::Place(p) = m {
+        if let Some(p) = m {
             out[count] = p as u32;
             count += 1;
         }

@@ -1,18 +1,19 @@
 -- An answer is a refusal, or the rest where a test is passed: what holds of both holds of it. Assumes nothing.
+use Rattle.std.specs.Prelude.{Ok}
 use mathlib.Core.Path.{◌≡◌, refl}
 use mathlib.Core.Bool.{Bool, true, false, cond}
 use Prim.Native.Nat.{ℕ, ◌≤◌}
 use native.Mathlib.Omega.{arith}
 use borrow.Author.Tests.{ltb-false, eqb-true}
 use lib.Dec.{ltb, eqb}
-use Rattle.refusals.specs.Told.{Told, gave, refused, if_length}
+use Rattle.refusals.specs.Outcome.{Outcome, refused, if_length}
 use Rattle.ldpc.specs.declared.choice.Code.{Code}
 use Rattle.ldpc.specs.Choice.{made, if_made}
 use Rattle.ldpc.specs.Code.{work_of}
 use Rattle.decoder.specs.Calls.{if_work, if_sum}
 
 -- a refusal gives nothing
-pub never : {A B : Type 0} {x : A} (n a b : ℕ) → refused n a b ≡ gave x → B
+pub never : {A B : Type 0} {x : A} (n a b : ℕ) → refused n a b ≡ Ok x → B
 never n a b e = let z : ◌≡◌ {A = ℕ} 0 1 = cc in absurd (omega arith)
 
 -- a test, with what its outcome says
@@ -20,7 +21,7 @@ by : (Q : Bool → Type 0) (t : Bool) → (t ≡ true → Q true) → (t ≡ fal
 by Q true p q = p refl
 by Q false p q = q refl
 
-module _ {A : Type 0} (P : Told A → Type 0) (refusal : (n a b : ℕ) → P (refused n a b)) {rest : Told A} where
+module _ {A : Type 0} (P : Outcome A → Type 0) (refusal : (n a b : ℕ) → P (refused n a b)) {rest : Outcome A} where
   pub made_cases : (c : Code) → (made c ≡ true → P rest) → P (if_made c rest)
   unfolding if_made
   made_cases c p = by (λ t. P (cond t rest (refused 11 c.rate c.n_tx))) (made c) p (λ e. refusal _ _ _)
@@ -41,7 +42,7 @@ module _ {A : Type 0} (P : Told A → Type 0) (refusal : (n a b : ℕ) → P (re
   sum_cases all p = by (λ t. P (cond t (refused 10 all 65535) rest)) (ltb 65535 all) (λ e. refusal _ _ _) (λ e. p)
 
 -- two answers behind one test are the same if they are where it is passed
-pub work_same : {A : Type 0} (c : Code) (given : ℕ) (rest rest' : Told A) → (work_of c ≤ given → rest ≡ rest')
+pub work_same : {A : Type 0} (c : Code) (given : ℕ) (rest rest' : Outcome A) → (work_of c ≤ given → rest ≡ rest')
     → if_work c given rest ≡ if_work c given rest'
 unfolding if_work
 work_same c given rest rest' p =

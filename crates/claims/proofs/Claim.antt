@@ -1,5 +1,6 @@
 -- Demand 3 as one theorem on every list of calls: `broken_off`. Beside it, that what lies past the needed numbers is untouched, and
 -- that the one call is a start, a grant and a read. Assumes nothing.
+use Rattle.std.specs.Prelude.{Ok}
 use mathlib.Core.Path.{◌≡◌, refl, sym, ap, ap₂, ◌∙◌}
 use mathlib.Core.Bool.{true, false}
 use mathlib.Core.List.{List, [], ◌∷◌, ◌++◌}
@@ -10,7 +11,7 @@ use lib.ListN.{length, take, drop, get_or, length-take, take-append-drop}
 use lib.Seq.{take-length}
 use lib.Ieee.{Float, nan}
 use borrow.Author.Tests.{le-ltb}
-use Rattle.refusals.specs.Told.{Told, gave, refused, after, if_length}
+use Rattle.refusals.specs.Outcome.{Outcome, refused, after, if_length}
 use Rattle.laws.specs.Run.{Progress, run}
 use Rattle.laws.proofs.Front.{front_lent, front_past}
 use Rattle.laws.proofs.Run.{seen}
@@ -55,11 +56,11 @@ module _ (c : Code) (m : made c ≡ true) (rx w : List Float) (enough : work_of 
     unfolding grant_told owed_grant record_of
     grant_told_lem =
         made_passed _ c m
-        ∙ work_same c (length (take lent now.memory)) _ _ (λ h. ap (λ p. if_sum (now.iterations + g) (gave (record_of c p))) (goes_on h))
-        ∙ ap (λ n. if_work c n (if_sum (now.iterations + g) (gave (record_of c (later g))))) (given lent)
+        ∙ work_same c (length (take lent now.memory)) _ _ (λ h. ap (λ p. if_sum (now.iterations + g) (Ok (record_of c p))) (goes_on h))
+        ∙ ap (λ n. if_work c n (if_sum (now.iterations + g) (Ok (record_of c (later g))))) (given lent)
 
     -- what is held after the answer t
-    left : Told Decode → Held
+    left : Outcome Decode → Held
     left t =
         record {
           decode = returned t (record_of c now);
@@ -85,7 +86,7 @@ module _ (c : Code) (m : made c ≡ true) (rx w : List Float) (enough : work_of 
         made_passed _ c m
         ∙ ap (if_length 9 room c.n_tx)
         (work_same c (length (take lent now.memory)) _ _ (λ h. rw (word_lent c m lent now.memory h))
-        ∙ ap (λ n. if_work c n (gave (result_of c now))) (given lent))
+        ∙ ap (λ n. if_work c n (Ok (result_of c now))) (given lent))
 
     read_written_lem : (out : List ℕ) → read_written (record_of c now) (take lent now.memory) out
         ≡ after (owed_read c rx w sum lent (length out)) (word_of c now.memory) out
@@ -95,7 +96,7 @@ module _ (c : Code) (m : made c ≡ true) (rx w : List Float) (enough : work_of 
         ∙ length_cases same (λ n a b. refl) 9 (length out) c.n_tx
         (λ e. work_cases same (λ n a b. refl) c (min lent (length w)) (λ h. word_lent c m lent now.memory (rw (given lent) h)))
       where
-        same : Told DecodeResult → Type 0
+        same : Outcome DecodeResult → Type 0
         same t = after t (word_of c (take lent now.memory)) out ≡ after t (word_of c now.memory) out
 
   answers_one : (call : Call) → answer_of (held_at c rx w sum) call ≡ owed_answer c rx w sum call
@@ -131,25 +132,25 @@ pub record Accepted (c : Code) (rx : List Float) (room : ℕ) (d : Decode) : Typ
   pub enough : work_of c ≤ room
   pub is : d ≡ record { code = c; iterations = 0; converged = false }
 
-pub accepted : (c : Code) (rx : List Float) (room : ℕ) (d : Decode) → start_told c rx room ≡ gave d → Accepted c rx room d
+pub accepted : (c : Code) (rx : List Float) (room : ℕ) (d : Decode) → start_told c rx room ≡ Ok d → Accepted c rx room d
 unfolding start_told
 accepted c rx room d =
     made_cases P never c
     (λ m. length_cases P never 5 (length rx) c.n_tx
     (λ l. work_cases P never c room (λ h e. record { code_made = m; heard = l; enough = h; is = (cc) })))
   where
-    P : Told Decode → Type 0
-    P t = t ≡ gave d → Accepted c rx room d
+    P : Outcome Decode → Type 0
+    P t = t ≡ Ok d → Accepted c rx room d
 
 -- and such a start is accepted
 pub starts : (c : Code) (rx : List Float) (room : ℕ) → made c ≡ true → length rx ≡ c.n_tx → work_of c ≤ room
-    → start_told c rx room ≡ gave (record { code = c; iterations = 0; converged = false })
+    → start_told c rx room ≡ Ok (record { code = c; iterations = 0; converged = false })
 unfolding start_told if_work
 starts c rx room m l h = made_passed _ c m ∙ length_passed _ 5 (length rx) c.n_tx l ∙ (rw (le-ltb room (work_of c) h))
 
 -- 01, "Lists": for every list of calls after an accepted start, the answers are those owed, and what is held is the unbroken decode
 -- limited to the running sum
-module _ (c : Code) (rx w : List Float) (lent : ℕ) (d : Decode) (start : start_told c rx (length (take lent w)) ≡ gave d) where
+module _ (c : Code) (rx w : List Float) (lent : ℕ) (d : Decode) (start : start_told c rx (length (take lent w)) ≡ Ok d) where
   given_start : Accepted c rx (length (take lent w)) d
   given_start = accepted c rx (length (take lent w)) d start
 
@@ -185,15 +186,15 @@ module _ (c : Code) (m : made c ≡ true) (factor : Float) (rx w : List Float) (
   untouched = front_past (unbroken_front c m factor n rx) nan w enough
 
 -- ---- the one call
-module _ (rate n : ℕ) (c : Code) (choice : chosen rate n ≡ gave c) (rx w : List Float) (d : Decode)
-    (start : start_told c rx (length w) ≡ gave d) (limit : ℕ) (small : limit ≤ 65535) (out : List ℕ) where
+module _ (rate n : ℕ) (c : Code) (choice : chosen rate n ≡ Ok c) (rx w : List Float) (d : Decode)
+    (start : start_told c rx (length w) ≡ Ok d) (limit : ℕ) (small : limit ≤ 65535) (out : List ℕ) where
   had : Accepted c rx (length w) d
   had = accepted c rx (length w) d start
 
   all : min (length w) (length w) ≡ length w
   all = omega arith
 
-  grant_owed : owed_grant c rx w 0 limit (length w) ≡ gave (record_of c (unbroken alpha c rx w limit))
+  grant_owed : owed_grant c rx w 0 limit (length w) ≡ Ok (record_of c (unbroken alpha c rx w limit))
   unfolding owed_grant if_work if_sum unbroken iterated run
   grant_owed = rw (all, le-ltb (length w) (work_of c) had.enough, zero-add, le-ltb 65535 limit small)
 
@@ -210,7 +211,7 @@ module _ (rate n : ℕ) (c : Code) (choice : chosen rate n ≡ gave c) (rx w : L
   calls = grant limit (length w) ∷ read (length w) out ∷ []
 
   pub one_call : answers (begun d c rx w (length w)) calls
-      ≡ granted (gave (record_of c (unbroken alpha c rx w limit)))
+      ≡ granted (Ok (record_of c (unbroken alpha c rx w limit)))
       ∷ read_out (decode_told rate n rx limit w (length out)) (decode_written rate n rx limit w out)
       ∷ []
   unfolding owed owed_answer decode_told decode_written written_by

@@ -1,6 +1,7 @@
 -- Demand 3 over a list of calls: what the calls do, and what is owed of them. 01, "Lists". Assumes nothing.
+use Rattle.std.specs.Prelude.{Ok}
 use Rattle.std.specs.Prelude.{List, [], ◌∷◌, ◌++◌, ℕ, ◌+◌, min, length, take, drop, Float}
-use Rattle.refusals.specs.Told.{Told, gave, refused, after, if_length}
+use Rattle.refusals.specs.Outcome.{Outcome, refused, after, if_length}
 use Rattle.ldpc.specs.declared.choice.Code.{Code}
 use Rattle.decoder.specs.declared.record.Decode.{Decode}
 use Rattle.decoder.specs.declared.record.DecodeResult.{DecodeResult}
@@ -16,8 +17,8 @@ pub data Call : Type 0 where
 
 -- what a call tells, and what a read leaves in its output
 pub data Answer : Type 0 where
-  granted : Told Decode → Answer
-  read_out : Told DecodeResult → List ℕ → Answer
+  granted : Outcome Decode → Answer
+  read_out : Outcome DecodeResult → List ℕ → Answer
 
 -- ---- what the calls do
 -- 01, "Lists": the record that Start or the last accepted grant returned, and the whole work memory as last left
@@ -26,8 +27,8 @@ pub record Held : Type 0 where
   pub memory : List Float
 
 -- the record that a call returned, or the one from before where it refused
-abbrev pub returned : Told Decode → Decode → Decode
-returned (gave d) before = d
+abbrev pub returned : Outcome Decode → Decode → Decode
+returned (Ok d) before = d
 returned (refused n a b) before = before
 
 -- 01, "Lists": after a start that returned d, lent the first numbers of the memory w
@@ -61,15 +62,15 @@ after_all h (call ∷ calls) = after_all (held_after h call) calls
 -- ---- what is owed, from the calls alone: of a code and readings, in the memory w as it was before Start
 module _ (c : Code) (rx w : List Float) where
   -- 01, "Lists": refusal 8, then 10 by the iterations of the unbroken decode limited to the running sum; any other grant adds its g
-  unfoldable pub owed_grant : ℕ → ℕ → ℕ → Told Decode
+  unfoldable pub owed_grant : ℕ → ℕ → ℕ → Outcome Decode
   owed_grant sum g lent =
       if_work c (min lent (length w))
-      (if_sum ((unbroken alpha c rx w sum).iterations + g) (gave (record_of c (unbroken alpha c rx w (sum + g)))))
+      (if_sum ((unbroken alpha c rx w sum).iterations + g) (Ok (record_of c (unbroken alpha c rx w (sum + g)))))
 
   -- 01, "Lists": refusal 9, then 8; an accepted read gives what the unbroken decode gives
-  unfoldable pub owed_read : ℕ → ℕ → ℕ → Told DecodeResult
+  unfoldable pub owed_read : ℕ → ℕ → ℕ → Outcome DecodeResult
   owed_read sum lent room =
-      if_length 9 room c.n_tx (if_work c (min lent (length w)) (gave (result_of c (unbroken alpha c rx w sum))))
+      if_length 9 room c.n_tx (if_work c (min lent (length w)) (Ok (result_of c (unbroken alpha c rx w sum))))
 
   unfoldable pub owed_answer : ℕ → Call → Answer
   owed_answer sum (grant g lent) = granted (owed_grant sum g lent)

@@ -1,14 +1,14 @@
 // The transmitted members of a check, and how many checks a word does not meet. What `unmet_checks` requires, its callers
 // meet: `unsatisfied` here, and the decoder's crate.
 ghost use Rattle.std.specs.Prelude.{◌≡◌, true, ◌≤◌, length};
-ghost use Rattle.refusals.specs.Told.{told_count};
+ghost use Rattle.refusals.specs.Outcome.{outcome};
 ghost use Rattle.bits.specs.Sums.{Bits};
 ghost use Rattle.ldpc.specs.Choice.{made};
 ghost use Rattle.ldpc.specs.Code.{checks_of};
 ghost use Rattle.coder.specs.Calls.{listed, list_written, unsatisfied_of, unsatisfied_told};
 
 use ldpc::Code;
-use refusals::{Counted, Refusal};
+use refusals::Refusal;
 
 // How many checks a word of bits does not meet, its syndrome being written to the front of `room`.
 fn count_unmet(c: Code, word: &[u8], room: &mut [u8]) -> usize
@@ -33,12 +33,12 @@ pub fn unmet_checks(c: Code, word: &[u8]) -> usize
 }
 
 // Writes the transmitted members of a check, in edge order, to the front of out, and answers how many there are.
-pub fn check_members(c: Code, check: usize, out: &mut [u32]) -> Counted
-    ensures result_value { told_count result ≡ listed c check (length out.old) }
+pub fn check_members(c: Code, check: usize, out: &mut [u32]) -> Result<usize, Refusal>
+    ensures result_value { outcome result ≡ listed c check (length out.old) }
     ensures out_after { out.new ≡ list_written c check out.old }
 {
     if !c.is_made() {
-        return Counted::Refused(Refusal::Record(c.rate, c.n_tx));
+        return Err(Refusal::Record { rate: c.rate, n_tx: c.n_tx });
     }
     let g = tables::graph_of(c.rate, c.family);
     let s = g.shape;
@@ -46,27 +46,27 @@ pub fn check_members(c: Code, check: usize, out: &mut [u32]) -> Counted
     let shifts = g.shifts;
     let checks = s.m_b * c.z;
     if checks <= check {
-        return Counted::Refused(Refusal::NoCheck(check, checks));
+        return Err(Refusal::NoCheck { check, checks });
     }
     let edges = 3 * s.k_b + 2 * s.m_b + 1;
     let n = check_lists::count_members(c, s, &rows, &shifts, check, edges);
     if out.len() < n {
-        return Counted::Refused(Refusal::Output(out.len(), n));
+        return Err(Refusal::Output { given: out.len(), wanted: n });
     }
     check_lists::write_members(c, s, &rows, &shifts, check, edges, out);
-    Counted::Count(n)
+    Ok(n)
 }
 
 // How many checks a word of any length does not meet.
-pub fn unsatisfied(c: Code, word: &[u8]) -> Counted
-    ensures { told_count result ≡ unsatisfied_told c word.now }
+pub fn unsatisfied(c: Code, word: &[u8]) -> Result<usize, Refusal>
+    ensures { outcome result ≡ unsatisfied_told c word.now }
 {
     if !c.is_made() {
-        return Counted::Refused(Refusal::Record(c.rate, c.n_tx));
+        return Err(Refusal::Record { rate: c.rate, n_tx: c.n_tx });
     }
     let place = bits::first_not_bit(word);
     if place < word.len() {
-        return Counted::Refused(Refusal::NotBit(place, numbers::wide8(word[place])));
+        return Err(Refusal::NotBit { place, value: numbers::wide8(word[place]) });
     }
-    Counted::Count(unmet_checks(c, word))
+    Ok(unmet_checks(c, word))
 }

@@ -2,12 +2,12 @@
 use mathlib.Core.Path.{◌≡◌}
 use Prim.Native.Nat.{ℕ, ◌<◌, ◌≤◌}
 use borrow.Author.Tests.{lt-ltb, le-ltb}
-use Rattle.refusals.specs.Told.{Told, refused}
+use Rattle.refusals.specs.Outcome.{Outcome, refused}
 use Rattle.ldpc.specs.declared.choice.Code.{Code}
 use Rattle.ldpc.specs.Code.{work_of}
 use Rattle.decoder.specs.Calls.{if_work, if_sum}
 
-module _ {A : Type 0} (rest : Told A) where
+module _ {A : Type 0} (rest : Outcome A) where
   module _ (c : Code) (given : ℕ) where
     pub work_passed : work_of c ≤ given → if_work c given rest ≡ rest
     unfolding if_work

@@ -1,6 +1,7 @@
 -- What the calls tell, and what they write, with 01's refusals in 01's order. Assumes nothing.
+use Rattle.std.specs.Prelude.{Ok}
 use Rattle.std.specs.Prelude.{false, cond, List, ℕ, ◌+◌, ltb, length, Float}
-use Rattle.refusals.specs.Told.{Told, gave, refused, refused_by, after, if_length}
+use Rattle.refusals.specs.Outcome.{Outcome, refused, refused_by, after, if_length}
 use Rattle.ldpc.specs.declared.choice.Code.{Code}
 use Rattle.ldpc.specs.declared.choice.Choice.{Choice}
 use Rattle.ldpc.specs.declared.choice.Choice.TheVariants as choice
@@ -18,50 +19,50 @@ use Rattle.runs.specs.Runs.{alpha, iterated, unbroken}
 use Rattle.decoder.specs.Decoding.{record_of, progress_of, result_of}
 
 -- refusal 8: the work memory's length, given and needed
-unfoldable pub if_work : {A : Type 0} → Code → ℕ → Told A → Told A
+unfoldable pub if_work : {A : Type 0} → Code → ℕ → Outcome A → Outcome A
 if_work c given rest = cond (ltb given (work_of c)) (refused 8 given (work_of c)) rest
 
 -- refusal 10: iterations and g together
-unfoldable pub if_sum : {A : Type 0} → ℕ → Told A → Told A
+unfoldable pub if_sum : {A : Type 0} → ℕ → Outcome A → Outcome A
 if_sum all rest = cond (ltb 65535 all) (refused 10 all 65535) rest
 
 -- start: 11, 5, 8
-unfoldable pub start_told : Code → List Float → ℕ → Told Decode
+unfoldable pub start_told : Code → List Float → ℕ → Outcome Decode
 start_told c rx room =
-    if_made c (if_length 5 (length rx) c.n_tx (if_work c room (gave (record { code = c; iterations = 0; converged = false }))))
+    if_made c (if_length 5 (length rx) c.n_tx (if_work c room (Ok (record { code = c; iterations = 0; converged = false }))))
 
 unfoldable pub start_written : Code → List Float → List Float → List Float
 start_written c rx w = after (start_told c rx (length w)) (start_memory c rx w) w
 
 -- grant: 11, 8, 10
-unfoldable pub grant_told : Decode → ℕ → List Float → Told Decode
+unfoldable pub grant_told : Decode → ℕ → List Float → Outcome Decode
 grant_told d g w =
-    if_made d.code (if_work d.code (length w) (if_sum (d.iterations + g) (gave (record_of d.code (iterated alpha d.code g (progress_of d w))))))
+    if_made d.code (if_work d.code (length w) (if_sum (d.iterations + g) (Ok (record_of d.code (iterated alpha d.code g (progress_of d w))))))
 
 unfoldable pub grant_written : Decode → ℕ → List Float → List Float
 grant_written d g w = after (grant_told d g w) (iterated alpha d.code g (progress_of d w)).memory w
 
 -- read: 11, 9, 8
-unfoldable pub read_told : Decode → List Float → ℕ → Told DecodeResult
+unfoldable pub read_told : Decode → List Float → ℕ → Outcome DecodeResult
 read_told d w room =
-    if_made d.code (if_length 9 room d.code.n_tx (if_work d.code (length w) (gave (result_of d.code (progress_of d w)))))
+    if_made d.code (if_length 9 room d.code.n_tx (if_work d.code (length w) (Ok (result_of d.code (progress_of d w)))))
 
 unfoldable pub read_written : Decode → List Float → List ℕ → List ℕ
 read_written d w out = after (read_told d w (length out)) (word_of d.code w) out
 
 -- the one call: 2, 1, 5, 9, 8; a code that cannot be made ends it
-abbrev pub with_code : {A : Type 0} → Told Code → (Code → Told A) → Told A
-with_code (gave c) f = f c
+abbrev pub with_code : {A : Type 0} → Outcome Code → (Code → Outcome A) → Outcome A
+with_code (Ok c) f = f c
 with_code (refused n a b) f = refused n a b
 
-abbrev pub by_code : {A : Type 0} → Told Code → (Code → A) → A → A
-by_code (gave c) f rest = f c
+abbrev pub by_code : {A : Type 0} → Outcome Code → (Code → A) → A → A
+by_code (Ok c) f rest = f c
 by_code (refused n a b) f rest = rest
 
 -- with a code: 5, 9, 8
-unfoldable pub decoded_by : Code → List Float → ℕ → List Float → ℕ → Told DecodeResult
+unfoldable pub decoded_by : Code → List Float → ℕ → List Float → ℕ → Outcome DecodeResult
 decoded_by c rx limit w room =
-    if_length 5 (length rx) c.n_tx (if_length 9 room c.n_tx (if_work c (length w) (gave (result_of c (unbroken alpha c rx w limit)))))
+    if_length 5 (length rx) c.n_tx (if_length 9 room c.n_tx (if_work c (length w) (Ok (result_of c (unbroken alpha c rx w limit)))))
 
 unfoldable pub memory_by : Code → List Float → ℕ → List Float → ℕ → List Float
 memory_by c rx limit w room = after (decoded_by c rx limit w room) (unbroken alpha c rx w limit).memory w
@@ -69,7 +70,7 @@ memory_by c rx limit w room = after (decoded_by c rx limit w room) (unbroken alp
 unfoldable pub written_by : Code → List Float → ℕ → List Float → List ℕ → List ℕ
 written_by c rx limit w out = after (decoded_by c rx limit w (length out)) (word_of c (unbroken alpha c rx w limit).memory) out
 
-unfoldable pub decode_told : ℕ → ℕ → List Float → ℕ → List Float → ℕ → Told DecodeResult
+unfoldable pub decode_told : ℕ → ℕ → List Float → ℕ → List Float → ℕ → Outcome DecodeResult
 decode_told rate n rx limit w room = with_code (chosen rate n) (λ c. decoded_by c rx limit w room)
 
 unfoldable pub decode_memory : ℕ → ℕ → List Float → ℕ → List Float → ℕ → List Float
@@ -79,15 +80,15 @@ unfoldable pub decode_written : ℕ → ℕ → List Float → ℕ → List Floa
 decode_written rate n rx limit w out = by_code (chosen rate n) (λ c. written_by c rx limit w out) out
 
 -- the refusal of a choice that made no code
-abbrev pub handed_out : Choice → Told DecodeResult
+abbrev pub handed_out : Choice → Outcome DecodeResult
 handed_out (choice.Made c) = refused 11 c.rate c.n_tx
 handed_out (choice.Refused r) = refused_by r
 
 -- the answers' cases
-abbrev pub told_decode : Granted → Told Decode
-told_decode (granted.Decode d) = gave d
-told_decode (granted.Refused r) = refused_by r
+abbrev pub outcome : Granted → Outcome Decode
+outcome (granted.Decode d) = Ok d
+outcome (granted.Refused r) = refused_by r
 
-abbrev pub told_result : ReadOut → Told DecodeResult
-told_result (read_out.Result x) = gave x
-told_result (read_out.Refused r) = refused_by r
+abbrev pub outcome : ReadOut → Outcome DecodeResult
+outcome (read_out.Result x) = Ok x
+outcome (read_out.Refused r) = refused_by r

@@ -1,44 +1,45 @@
 // The one call: Choice, Start, one grant of the limit, and Read.
+ghost use Rattle.refusals.specs.Outcome.{outcome};
 ghost use Rattle.std.specs.Prelude.{◌≡◌, true, length};
 ghost use Rattle.ldpc.specs.Choice.{made};
-ghost use Rattle.decoder.specs.Calls.{told_result, handed_out, decoded_by, memory_by, written_by, decode_told, decode_memory, decode_written};
+ghost use Rattle.decoder.specs.Calls.{handed_out, decoded_by, memory_by, written_by, decode_told, decode_memory, decode_written};
 
-use crate::record::{DecodeResult, ReadOut};
-use ldpc::{Choice, Code};
+use crate::record::DecodeResult;
+use ldpc::Code;
 use refusals::Refusal;
 
 // The refusal of a code that cannot be made. (Of a code that is made it would say 11.)
-fn hand_out(choice: Choice) -> ReadOut
-    ensures { told_result result ≡ handed_out choice }
+fn hand_out(choice: Result<Code, Refusal>) -> Result<DecodeResult, Refusal>
+    ensures { outcome result ≡ handed_out choice }
 {
     match choice {
-        Choice::Made(c) => ReadOut::Refused(Refusal::Record(c.rate, c.n_tx)),
-        Choice::Refused(r) => ReadOut::Refused(r),
+        Ok(c) => Err(Refusal::Record { rate: c.rate, n_tx: c.n_tx }),
+        Err(r) => Err(r),
     }
 }
 
 // The one call once its code is made.
-fn decode_by(c: Code, rx: &[f32], limit: u16, work: &mut [f32], out: &mut [u8]) -> ReadOut
+fn decode_by(c: Code, rx: &[f32], limit: u16, work: &mut [f32], out: &mut [u8]) -> Result<DecodeResult, Refusal>
     requires { made c ≡ true }
-    ensures result_value { told_result result ≡ decoded_by c rx.now limit work.old (length out.old) }
+    ensures result_value { outcome result ≡ decoded_by c rx.now limit work.old (length out.old) }
     ensures work_after { work.new ≡ memory_by c rx.now limit work.old (length out.old) }
     ensures out_after { out.new ≡ written_by c rx.now limit work.old out.old }
 {
     let n_tx = c.n_tx;
     if rx.len() != n_tx {
-        return ReadOut::Refused(Refusal::Input(rx.len(), n_tx));
+        return Err(Refusal::Input { given: rx.len(), wanted: n_tx });
     }
     if out.len() != n_tx {
-        return ReadOut::Refused(Refusal::Output(out.len(), n_tx));
+        return Err(Refusal::Output { given: out.len(), wanted: n_tx });
     }
     let s = sizes::sizes_of(c);
     let needed = channel::work_needed(c, s);
     if work.len() < needed {
-        return ReadOut::Refused(Refusal::Work(work.len(), needed));
+        return Err(Refusal::Work { given: work.len(), needed });
     }
     let r = runs::decode_unbroken(c, s, rx, limit, work);
     let clean = word::read(c, s, r.converged, work, out);
-    ReadOut::Result(DecodeResult {
+    Ok(DecodeResult {
         iterations: r.iterations,
         converged: r.converged,
         clean: clean,
@@ -53,13 +54,13 @@ pub fn decode(
     limit: u16,
     work: &mut [f32],
     out: &mut [u8],
-) -> ReadOut
-    ensures result_value { told_result result ≡ decode_told rate n_tx rx.now limit work.old (length out.old) }
+) -> Result<DecodeResult, Refusal>
+    ensures result_value { outcome result ≡ decode_told rate n_tx rx.now limit work.old (length out.old) }
     ensures work_after { work.new ≡ decode_memory rate n_tx rx.now limit work.old (length out.old) }
     ensures out_after { out.new ≡ decode_written rate n_tx rx.now limit work.old out.old }
 {
     let choice = Code::new(rate, n_tx);
-    let Choice::Made(c) = choice else {
+    let Ok(c) = choice else {
         return hand_out(choice);
     };
     decode_by(c, rx, limit, work, out)

@@ -9,4 +9,4 @@ mod record;
 mod start;
 
 pub use call::decode;
-pub use record::{Decode, DecodeResult, Granted, ReadOut};
+pub use record::{Decode, DecodeResult};

@@ -1,5 +1,5 @@
 // A decode by the one call, and its line.
-use decoder::{DecodeResult, ReadOut};
+use decoder::DecodeResult;
 use std::io;
 
 fn print_result(rt: &impl Print, r: DecodeResult, word: &[u8]) -> io::Result<()> {
@@ -12,10 +12,10 @@ fn print_result(rt: &impl Print, r: DecodeResult, word: &[u8]) -> io::Result<()>
     text::print_word(rt, word, 78)
 }
 
-fn print_answer(rt: &impl Print, answer: ReadOut, word: &[u8]) -> io::Result<()> {
+fn print_answer(rt: &impl Print, answer: Result<DecodeResult, Refusal>, word: &[u8]) -> io::Result<()> {
     match answer {
-        ReadOut::Result(r) => print_result(rt, r, word),
-        ReadOut::Refused(r) => text::print_refusal(rt, r, b'\n'),
+        Ok(r) => print_result(rt, r, word),
+        Err(r) => text::print_refusal(rt, r, b'\n'),
     }
 }
 

@@ -7,7 +7,7 @@
 mod answers;
 mod inputs;
 
-use ldpc::{Choice, Code};
+use ldpc::Code;
 use std::io;
 
 // Every kind of readings, with two seeds.
@@ -24,8 +24,8 @@ fn print_kinds(rt: &impl Print, c: Code, rate: usize) -> io::Result<()> {
 fn print_code(rt: &impl Print, rate: usize, n_tx: usize) -> io::Result<()> {
     let choice = Code::new(rate, n_tx);
     match choice {
-        Choice::Made(c) => print_kinds(rt, c, rate),
-        Choice::Refused(r) => text::print_refusal(rt, r, b'\n'),
+        Ok(c) => print_kinds(rt, c, rate),
+        Err(r) => text::print_refusal(rt, r, b'\n'),
     }
 }
 

@@ -21,7 +21,7 @@ pub extern "C" fn fuyegbo_code(
         return 9;
     }
     if code.len() != 6 {
-        return boundary::refuse(Refusal::Output(code.len(), 6), answer);
+        return boundary::refuse(Refusal::Output { given: code.len(), wanted: 6 }, answer);
     }
     boundary::made(Code::new(rate, n_tx), code, answer)
 }

@@ -1,6 +1,6 @@
 // k / n_tx.
 ghost use Rattle.std.specs.Prelude.{◌≡◌, ◌∷◌, [], length};
-ghost use Rattle.refusals.specs.Told.{after};
+ghost use Rattle.refusals.specs.Outcome.{after};
 ghost use Rattle.ldpc.specs.Getters.{rate_told};
 ghost use Rattle.boundary.specs.Answers.{code_in, none, number_told, answered};
 ghost use Rattle.boundary.specs.Calls.{rate_at};
@@ -21,7 +21,7 @@ pub extern "C" fn fuyegbo_effective_rate(
         return 9;
     }
     if code.len() != 6 {
-        return boundary::refuse(Refusal::Input(code.len(), 6), answer);
+        return boundary::refuse(Refusal::Input { given: code.len(), wanted: 6 }, answer);
     }
     let c = boundary::code_in(code);
     boundary::filled(boundary::put_rate(c, rate), answer)

@@ -14,7 +14,7 @@ pub extern "C" fn fuyegbo_work_needed(code: &[usize], answer: &mut [usize]) -> u
         return 9;
     }
     if code.len() != 6 {
-        return boundary::refuse(Refusal::Input(code.len(), 6), answer);
+        return boundary::refuse(Refusal::Input { given: code.len(), wanted: 6 }, answer);
     }
     let c = boundary::code_in(code);
     boundary::counted(boundary::work_needed(c), answer)

@@ -1,6 +1,6 @@
 // The transmitted members of a check, and how many they are.
 ghost use Rattle.std.specs.Prelude.{◌≡◌, ◌++◌, length, drop};
-ghost use Rattle.refusals.specs.Told.{after};
+ghost use Rattle.refusals.specs.Outcome.{after};
 ghost use Rattle.coder.specs.Calls.{code_members};
 ghost use Rattle.boundary.specs.Answers.{code_in, one, number_told, answered};
 ghost use Rattle.boundary.specs.Calls.{members_at};
@@ -22,7 +22,7 @@ pub extern "C" fn fuyegbo_check_members(
         return 9;
     }
     if code.len() != 6 {
-        return boundary::refuse(Refusal::Input(code.len(), 6), answer);
+        return boundary::refuse(Refusal::Input { given: code.len(), wanted: 6 }, answer);
     }
     let c = boundary::code_in(code);
     boundary::counted(coder::check_members(c, check, out), answer)

@@ -1,6 +1,6 @@
 // Encodes k information bits into n_tx transmitted ones.
 ghost use Rattle.std.specs.Prelude.{◌≡◌, length};
-ghost use Rattle.refusals.specs.Told.{after};
+ghost use Rattle.refusals.specs.Outcome.{after};
 ghost use Rattle.coder.specs.Calls.{encoding_of};
 ghost use Rattle.boundary.specs.Answers.{code_in, none, number_told, answered};
 ghost use Rattle.boundary.specs.Calls.{encode_at};
@@ -22,7 +22,7 @@ pub extern "C" fn fuyegbo_encode(
         return 9;
     }
     if code.len() != 6 {
-        return boundary::refuse(Refusal::Input(code.len(), 6), answer);
+        return boundary::refuse(Refusal::Input { given: code.len(), wanted: 6 }, answer);
     }
     let c = boundary::code_in(code);
     boundary::filled(coder::encode(c, info, out), answer)

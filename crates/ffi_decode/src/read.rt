@@ -1,6 +1,6 @@
 // The decided bits, with iterations, converged and clean.
 ghost use Rattle.std.specs.Prelude.{◌≡◌, length};
-ghost use Rattle.refusals.specs.Told.{after};
+ghost use Rattle.refusals.specs.Outcome.{after};
 ghost use Rattle.word.specs.Word.{word_of};
 ghost use Rattle.boundary.specs.Answers.{decode_in, result_numbers, number_told, answered};
 ghost use Rattle.boundary.specs.Calls.{read_at};
@@ -22,10 +22,10 @@ pub extern "C" fn fuyegbo_read(
         return 9;
     }
     if decode.len() != 8 {
-        return boundary::refuse(Refusal::Input(decode.len(), 8), answer);
+        return boundary::refuse(Refusal::Input { given: decode.len(), wanted: 8 }, answer);
     }
     if !boundary::is_decode(decode) {
-        return boundary::refuse(Refusal::Record(decode[0], decode[1]), answer);
+        return boundary::refuse(Refusal::Record { rate: decode[0], n_tx: decode[1] }, answer);
     }
     let d = boundary::decode_in(decode);
     boundary::result(d.read(work, out), answer)

@@ -1,6 +1,6 @@
 // A whole graph: rows and shifts.
 ghost use Rattle.std.specs.Prelude.{◌≡◌, length};
-ghost use Rattle.refusals.specs.Told.{after};
+ghost use Rattle.refusals.specs.Outcome.{after};
 ghost use Rattle.graph.specs.Calls.{build_told, built_rows, built_shifts};
 ghost use Rattle.boundary.specs.Answers.{none, number_told, answered, if_answer};
 

@@ -1,6 +1,6 @@
 // The shifts of the rows.
 ghost use Rattle.std.specs.Prelude.{◌≡◌, ◌*◌, length};
-ghost use Rattle.refusals.specs.Told.{after};
+ghost use Rattle.refusals.specs.Outcome.{after};
 ghost use Rattle.shifts.specs.Shifts.{shifts_of};
 ghost use Rattle.graph.specs.Calls.{shifts_told};
 ghost use Rattle.boundary.specs.Answers.{none, number_told, answered, if_answer};

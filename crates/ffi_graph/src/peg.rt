@@ -1,6 +1,6 @@
 // Progressive edge growth: the rows.
 ghost use Rattle.std.specs.Prelude.{◌≡◌, ◌-◌, length};
-ghost use Rattle.refusals.specs.Told.{after};
+ghost use Rattle.refusals.specs.Outcome.{after};
 ghost use Rattle.growth.specs.Growth.{rows_of};
 ghost use Rattle.graph.specs.Calls.{peg_told};
 ghost use Rattle.boundary.specs.Answers.{none, number_told, answered, if_answer};

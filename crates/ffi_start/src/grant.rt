@@ -1,6 +1,6 @@
 // At most g iterations more; the record is brought up to date.
 ghost use Rattle.std.specs.Prelude.{◌≡◌, length};
-ghost use Rattle.refusals.specs.Told.{after};
+ghost use Rattle.refusals.specs.Outcome.{after};
 ghost use Rattle.boundary.specs.Answers.{decode_numbers, decode_in, none, number_told, answered, after_by};
 ghost use Rattle.boundary.specs.Calls.{grant_at, granted_memory};
 
@@ -22,10 +22,10 @@ pub extern "C" fn fuyegbo_grant(
         return 9;
     }
     if decode.len() != 8 {
-        return boundary::refuse(Refusal::Input(decode.len(), 8), answer);
+        return boundary::refuse(Refusal::Input { given: decode.len(), wanted: 8 }, answer);
     }
     if !boundary::is_decode(decode) {
-        return boundary::refuse(Refusal::Record(decode[0], decode[1]), answer);
+        return boundary::refuse(Refusal::Record { rate: decode[0], n_tx: decode[1] }, answer);
     }
     let d = boundary::decode_in(decode);
     boundary::granted(d.grant(g, work), decode, answer)

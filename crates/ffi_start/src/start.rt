@@ -1,6 +1,6 @@
 // Starts a decode: its record, and the work memory.
 ghost use Rattle.std.specs.Prelude.{◌≡◌, length};
-ghost use Rattle.refusals.specs.Told.{after};
+ghost use Rattle.refusals.specs.Outcome.{after};
 ghost use Rattle.channel.specs.Channel.{start_memory};
 ghost use Rattle.boundary.specs.Answers.{code_in, decode_numbers, none, number_told, answered, after_by};
 ghost use Rattle.boundary.specs.Calls.{start_at};
@@ -25,10 +25,10 @@ pub extern "C" fn fuyegbo_start(
         return 9;
     }
     if code.len() != 6 {
-        return boundary::refuse(Refusal::Input(code.len(), 6), answer);
+        return boundary::refuse(Refusal::Input { given: code.len(), wanted: 6 }, answer);
     }
     if decode.len() != 8 {
-        return boundary::refuse(Refusal::Output(decode.len(), 8), answer);
+        return boundary::refuse(Refusal::Output { given: decode.len(), wanted: 8 }, answer);
     }
     let c = boundary::code_in(code);
     boundary::granted(Decode::start(c, rx, work), decode, answer)

@@ -1,5 +1,6 @@
 -- What build and peg write: no call that reads it refuses it, rows are three different ones below m_b in each column, shifts are below
 -- 512, and build is peg and then assign_shifts. Assumes nothing.
+use Rattle.std.specs.Prelude.{Ok}
 use mathlib.Core.Path.{◌≡◌, ◌∙◌}
 use mathlib.Core.Bool.{false}
 use mathlib.Core.List.{List}
@@ -8,7 +9,6 @@ use native.Mathlib.Omega.{arith}
 use lib.ListN.{length, get_or}
 use Rattle.laws.specs.Columns.{information_columns, faulty, first_fault}
 use Rattle.laws.proofs.First.{first_none}
-use Rattle.refusals.specs.Told.{gave}
 use Rattle.refusals.proofs.Lengths.{length_passed}
 use Rattle.growth.specs.Growth.{rows_of}
 use Rattle.growth.proofs.Grown.{length_grown, grown_sound}
@@ -44,12 +44,12 @@ no_fault m k size =
     omega (arith, e)
 
 module _ {n_b k_b : ℕ} (S : Shaped n_b k_b) where
-  shaped_passed : shaped_told n_b k_b ≡ gave tt
+  shaped_passed : shaped_told n_b k_b ≡ Ok tt
   unfolding shaped_told
   shaped_passed = rw (within_passed n_b 4 64 S.least S.most) (within_passed k_b 1 (n_b - 3) S.some S.few)
 
   -- the rows that peg writes are accepted for shifts
-  pub shifts_told_lem : (room : ℕ) → room ≡ 3 * k_b → shifts_told n_b k_b (rows_of (n_b - k_b) k_b) room ≡ gave tt
+  pub shifts_told_lem : (room : ℕ) → room ≡ 3 * k_b → shifts_told n_b k_b (rows_of (n_b - k_b) k_b) room ≡ Ok tt
   unfolding shifts_told
   shifts_told_lem room e =
       rw shaped_passed
@@ -58,7 +58,7 @@ module _ {n_b k_b : ℕ} (S : Shaped n_b k_b) where
 
   -- and with any shifts, as many, for the count of four-cycles
   pub cycles_told_lem : (shifts : List ℕ) (z : ℕ) → length shifts ≡ 3 * k_b → 1 ≤ z → z ≤ 65535
-      → cycles_told n_b k_b (rows_of (n_b - k_b) k_b) shifts z ≡ gave (four_cycles (rows_of (n_b - k_b) k_b) shifts z (n_b - k_b) k_b)
+      → cycles_told n_b k_b (rows_of (n_b - k_b) k_b) shifts z ≡ Ok (four_cycles (rows_of (n_b - k_b) k_b) shifts z (n_b - k_b) k_b)
   unfolding cycles_told cycles_counted lifted_told
   cycles_told_lem shifts z e low high =
       rw (shaped_passed, within_passed z 1 65535 low high)
@@ -66,7 +66,7 @@ module _ {n_b k_b : ℕ} (S : Shaped n_b k_b) where
       ∙ sound_passed _ (n_b - k_b) (rows_of (n_b - k_b) k_b) (no_fault (n_b - k_b) k_b (sized S).rows))
 
 -- the graph that build writes: both of the above, and its shifts are those that assign_shifts gives to its rows
-module _ (n_b percent : ℕ) (within : rated_told n_b percent ≡ gave tt) where
+module _ (n_b percent : ℕ) (within : rated_told n_b percent ≡ Ok tt) where
   abbrev k : ℕ
   k = information_columns n_b percent
 
@@ -82,7 +82,7 @@ module _ (n_b percent : ℕ) (within : rated_told n_b percent ≡ gave tt) where
 
   pub built_counted : (seed z : ℕ) → 1 ≤ z → z ≤ 65535
       → cycles_told n_b k (built_rows n_b percent) (built_shifts n_b percent seed) z
-      ≡ gave (four_cycles (built_rows n_b percent) (built_shifts n_b percent seed) z (n_b - k) k)
+      ≡ Ok (four_cycles (built_rows n_b percent) (built_shifts n_b percent seed) z (n_b - k) k)
   unfolding built_rows built_shifts
   built_counted seed z =
       cycles_told_lem built_shaped (shifts_of (rows_of (n_b - k) k) seed (3 * k)) z (length_shifts (rows_of (n_b - k) k) seed (3 * k))

@@ -1,4 +1,5 @@
 -- What the tests of design values come to: passed, they give the limits; not passed, the refusal. Assumes nothing.
+use Rattle.std.specs.Prelude.{Ok}
 use mathlib.Core.Path.{◌≡◌, refl, sym, ap, ◌∙◌}
 use mathlib.Core.Bool.{Bool, true, false, true≢false}
 use mathlib.Core.List.{List}
@@ -9,34 +10,34 @@ use borrow.Author.Tests.{lt-ltb, le-ltb}
 use lib.ListN.{length}
 use Rattle.laws.specs.Columns.{information_columns, faulty, first_fault}
 use Rattle.laws.proofs.First.{first_least}
-use Rattle.refusals.specs.Told.{Told, gave, refused, refused_by, told_done, and_then}
+use Rattle.refusals.specs.Outcome.{Outcome, refused, refused_by, outcome, and_then}
 use Rattle.refusals.specs.declared.Refusal.{Refusal}
 use Rattle.refusals.specs.declared.Filled.{Filled}
 use Rattle.refusals.specs.declared.Filled.TheVariants as filled
 use Rattle.graph.specs.Calls.{within_told, shaped_told, rated_told, lifted_told, if_sound}
 
-abbrev is_refused : {A : Type 0} → Told A → Bool
-is_refused (gave x) = false
+abbrev is_refused : {A : Type 0} → Outcome A → Bool
+is_refused (Ok x) = false
 is_refused (refused n p q) = true
 
-told_apart : {A : Type 0} {a : A} {n p q : ℕ} → refused n p q ≡ gave a → ⊥
+told_apart : {A : Type 0} {a : A} {n p q : ℕ} → refused n p q ≡ Ok a → ⊥
 told_apart e = true≢false (ap is_refused e)
 
 -- two tests are passed where each is
-both_passed : (t u : Told (Unit {0})) → and_then t u ≡ gave tt → (t ≡ gave tt) × (u ≡ gave tt)
-both_passed (gave x) u e = (refl, e)
+both_passed : (t u : Outcome (Unit {0})) → and_then t u ≡ Ok tt → (t ≡ Ok tt) × (u ≡ Ok tt)
+both_passed (Ok x) u e = (refl, e)
 both_passed (refused n p q) u e = absurd (told_apart e)
 
 -- a test's refusal is handed on, and where it is passed the rest is told
-module _ {A : Type 0} (rest : Told A) {f : Filled} {t : Told (Unit {0})} where
-  pub handed : {r : Refusal} → told_done f ≡ t → f ≡ filled.Refused r → refused_by r ≡ and_then t rest
-  handed e k = rw (sym e ∙ ap told_done k)
+module _ {A : Type 0} (rest : Outcome A) {f : Filled} {t : Outcome (Unit {0})} where
+  pub handed : {r : Refusal} → outcome f ≡ t → f ≡ filled.Refused r → refused_by r ≡ and_then t rest
+  handed e k = rw (sym e ∙ ap outcome k)
 
-  pub passed : told_done f ≡ t → f ≡ filled.Done → and_then t rest ≡ rest
-  passed e k = rw (sym e ∙ ap told_done k)
+  pub passed : outcome f ≡ t → f ≡ filled.Done → and_then t rest ≡ rest
+  passed e k = rw (sym e ∙ ap outcome k)
 
-pub gave_done : {f : Filled} {t : Told (Unit {0})} → told_done f ≡ t → f ≡ filled.Done → t ≡ gave tt
-gave_done e k = sym e ∙ ap told_done k
+pub gave_done : {f : Filled} {t : Outcome (Unit {0})} → outcome f ≡ t → f ≡ filled.Done → t ≡ Ok tt
+gave_done e k = sym e ∙ ap outcome k
 
 module _ (value low high : ℕ) where
   pub within_low : value < low → within_told value low high ≡ refused 3 value low
@@ -47,11 +48,11 @@ module _ (value low high : ℕ) where
   unfolding within_told
   within_high h k = rw (le-ltb value low h, lt-ltb high value k)
 
-  pub within_passed : low ≤ value → value ≤ high → within_told value low high ≡ gave tt
+  pub within_passed : low ≤ value → value ≤ high → within_told value low high ≡ Ok tt
   unfolding within_told
   within_passed h k = rw (le-ltb value low h, le-ltb high value k)
 
-  pub within_fits : within_told value low high ≡ gave tt → (low ≤ value) × (value ≤ high)
+  pub within_fits : within_told value low high ≡ Ok tt → (low ≤ value) × (value ≤ high)
   within_fits e = by (dec_lt value low) (dec_lt high value)
     where
       by : Dec (value < low) → Dec (high < value) → (low ≤ value) × (value ≤ high)
@@ -71,7 +72,7 @@ pub record Rated (n_b percent : ℕ) : Type 0 where
   pub most : n_b ≤ 64
   pub whole : percent ≤ 100
 
-pub shaped_fits : {n_b k_b : ℕ} → shaped_told n_b k_b ≡ gave tt → Shaped n_b k_b
+pub shaped_fits : {n_b k_b : ℕ} → shaped_told n_b k_b ≡ Ok tt → Shaped n_b k_b
 unfolding shaped_told
 shaped_fits {n_b} {k_b} e =
     let t = both_passed (within_told n_b 4 64) (within_told k_b 1 (n_b - 3)) e in
@@ -79,21 +80,21 @@ shaped_fits {n_b} {k_b} e =
     let info = within_fits k_b 1 (n_b - 3) t.1 in
     record { least = width.0; most = width.1; some = info.0; few = info.1 }
 
-pub rated_fits : {n_b percent : ℕ} → rated_told n_b percent ≡ gave tt → Rated n_b percent
+pub rated_fits : {n_b percent : ℕ} → rated_told n_b percent ≡ Ok tt → Rated n_b percent
 unfolding rated_told
 rated_fits {n_b} {percent} e =
     let t = both_passed (within_told n_b 4 64) (within_told percent 0 100) e in
     let width = within_fits n_b 4 64 t.0 in
     record { least = width.0; most = width.1; whole = (within_fits percent 0 100 t.1).1 }
 
-pub lifted_fits : {n_b k_b z : ℕ} → lifted_told n_b k_b z ≡ gave tt → Shaped n_b k_b × (1 ≤ z)
+pub lifted_fits : {n_b k_b z : ℕ} → lifted_told n_b k_b z ≡ Ok tt → Shaped n_b k_b × (1 ≤ z)
 unfolding lifted_told
 lifted_fits {n_b} {k_b} {z} e =
     let t = both_passed (shaped_told n_b k_b) (within_told z 1 65535) e in
     (shaped_fits t.0, (within_fits z 1 65535 t.1).0)
 
 -- the test of refusal 4
-module _ {A : Type 0} (rest : Told A) (m : ℕ) (rows : List ℕ) where
+module _ {A : Type 0} (rest : Outcome A) (m : ℕ) (rows : List ℕ) where
   pub sound_passed : length rows ≤ first_fault m rows → if_sound m rows rest ≡ rest
   unfolding if_sound
   sound_passed h = rw (le-ltb (first_fault m rows) (length rows) h)

@@ -1,29 +1,29 @@
 // A whole graph: growth, then the choice of shifts. Its rows need no test, as growth gives three different ones in each column.
 ghost use Rattle.std.specs.Prelude.{◌≡◌, length};
-ghost use Rattle.refusals.specs.Told.{told_done};
+ghost use Rattle.refusals.specs.Outcome.{outcome};
 ghost use Rattle.graph.specs.Calls.{build_told, rows_built, shifts_built};
 
-use refusals::{Filled, Refusal};
+use refusals::Refusal;
 
 // Writes the rows and the shifts of a graph of n_b base columns at a rate in percent.
-pub fn build(n_b: usize, percent: usize, seed: u64, rows: &mut [u8], shifts: &mut [u16]) -> Filled
-    ensures result_value { told_done result ≡ build_told n_b percent (length rows.old) (length shifts.old) }
+pub fn build(n_b: usize, percent: usize, seed: u64, rows: &mut [u8], shifts: &mut [u16]) -> Result<(), Refusal>
+    ensures result_value { outcome result ≡ build_told n_b percent (length rows.old) (length shifts.old) }
     ensures rows_after { rows.new ≡ rows_built n_b percent rows.old (length shifts.old) }
     ensures shifts_after { shifts.new ≡ shifts_built n_b percent seed (length rows.old) shifts.old }
 {
     let tested = crate::tests::rated(n_b, percent);
-    let Filled::Done = tested else {
+    let Ok(()) = tested else {
         return tested;
     };
     let k_b = crate::rate::columns_at(n_b, percent);
     let n = 3 * k_b;
     if rows.len() != n {
-        return Filled::Refused(Refusal::Output(rows.len(), n));
+        return Err(Refusal::Output { given: rows.len(), wanted: n });
     }
     if shifts.len() != n {
-        return Filled::Refused(Refusal::Output(shifts.len(), n));
+        return Err(Refusal::Output { given: shifts.len(), wanted: n });
     }
     growth::grow(n_b - k_b, k_b, rows);
     shifts::choose_shifts(k_b, rows, seed, shifts);
-    Filled::Done
+    Ok(())
 }

@@ -1,10 +1,9 @@
 // The number of information columns for a rate.
 ghost use Rattle.std.specs.Prelude.{◌≡◌, ◌≤◌};
 ghost use Rattle.laws.specs.Columns.{information_columns};
-ghost use Rattle.refusals.specs.Told.{told_count};
+ghost use Rattle.refusals.specs.Outcome.{outcome};
 ghost use Rattle.graph.specs.Calls.{columns_told};
 
-use refusals::{Counted, Filled};
 
 // k_b of n_b base columns.
 pub fn columns_at(n_b: usize, percent: usize) -> usize
@@ -16,11 +15,11 @@ pub fn columns_at(n_b: usize, percent: usize) -> usize
 }
 
 // k_b of n_b base columns at a rate in percent.
-pub fn information_columns(n_b: usize, percent: usize) -> Counted
-    ensures { told_count result ≡ columns_told n_b percent }
+pub fn information_columns(n_b: usize, percent: usize) -> Result<usize, Refusal>
+    ensures { outcome result ≡ columns_told n_b percent }
 {
     match crate::tests::rated(n_b, percent) {
-        Filled::Refused(r) => Counted::Refused(r),
-        Filled::Done => Counted::Count(columns_at(n_b, percent)),
+        Err(r) => Err(r),
+        Ok(()) => Ok(columns_at(n_b, percent)),
     }
 }

@@ -1,23 +1,23 @@
 // Growth: the rows of information columns.
 ghost use Rattle.std.specs.Prelude.{◌≡◌, length};
-ghost use Rattle.refusals.specs.Told.{told_done};
+ghost use Rattle.refusals.specs.Outcome.{outcome};
 ghost use Rattle.graph.specs.Calls.{peg_told, peg_written};
 
-use refusals::{Filled, Refusal};
+use refusals::Refusal;
 
 // Writes the rows of k_b information columns, grown one edge after the other.
-pub fn peg(n_b: usize, k_b: usize, rows: &mut [u8]) -> Filled
-    ensures result_value { told_done result ≡ peg_told n_b k_b (length rows.old) }
+pub fn peg(n_b: usize, k_b: usize, rows: &mut [u8]) -> Result<(), Refusal>
+    ensures result_value { outcome result ≡ peg_told n_b k_b (length rows.old) }
     ensures rows_after { rows.new ≡ peg_written n_b k_b rows.old }
 {
     let tested = crate::tests::shaped(n_b, k_b);
-    let Filled::Done = tested else {
+    let Ok(()) = tested else {
         return tested;
     };
     let n = 3 * k_b;
     if rows.len() != n {
-        return Filled::Refused(Refusal::Output(rows.len(), n));
+        return Err(Refusal::Output { given: rows.len(), wanted: n });
     }
     growth::grow(n_b - k_b, k_b, rows);
-    Filled::Done
+    Ok(())
 }

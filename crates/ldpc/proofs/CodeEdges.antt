@@ -1,15 +1,13 @@
 -- The base edges of a code's graph: rows, columns and shifts are within bounds; and what `edge_at` asks and tells of a graph
 -- that is lent. Assumes nothing.
-use mathlib.Core.Path.{◌≡◌, refl, sym, ap, ◌∙◌, subst}
+use mathlib.Core.Path.{◌≡◌, refl, sym, subst}
 use mathlib.Core.Bool.{Bool, true, false, cond}
-use mathlib.Core.List.{List}
 use Prim.Native.Nat.{ℕ, ◌*◌, ◌-◌, ◌<◌, ◌≤◌}
 use native.Mathlib.Omega.{arith}
 use native.Mathlib.Decide.{dec_lt}
 use borrow.Author.Tests.{lt-ltb}
 use lib.Dec.{eqb}
 use Rattle.laws.proofs.Written.{get_d_tabulate}
-use Rattle.tables.specs.declared.Shape.{Shape}
 use Rattle.tables.specs.Graph.{graph_number, info_columns, shift_at, shape_of, graph_of}
 use Rattle.tables.proofs.Sizes.{number_lt, sizes}
 use Rattle.tables.proofs.Columns as Columns
@@ -17,7 +15,7 @@ use Rattle.matrix.specs.Edges.{edges, edge_row, edge_column, edge_shift}
 use Rattle.matrix.proofs.Edges.{parity_shift}
 use Rattle.matrix.proofs.Simple.{Simple, simple}
 use Rattle.base_edges.specs.declared.Edge.{Edge}
-use Rattle.base_edges.specs.Edge.{graph_in, edges_in, edge_of}
+use Rattle.base_edges.specs.Edge.{edges_in, edge_of}
 use Rattle.ldpc.specs.declared.choice.Code.{Code}
 use Rattle.ldpc.specs.Choice.{made}
 use Rattle.ldpc.specs.Code.{code_graph}
@@ -58,23 +56,16 @@ pub record Edged (c : Code) (b : ℕ) (e : Edge) : Type 0 where
   pub column_lt : e.column < (code_graph c).shape.n_b
   pub shift_lt : e.shift < 512
 
--- a code's graph that is lent, and one of its base edges
-module _ (c : Code) (b : ℕ) {s : Shape} {rows shifts : List ℕ} (lent : graph_in s rows shifts ≡ code_graph c)
-    (h : b < edges (code_graph c)) where
-  pub edge_asked : made c ≡ true → (s.k_b ≤ 51) × (s.m_b ≤ 39) × (1 ≤ s.m_b) × (b < edges_in s)
+-- a base edge of a code
+module _ (c : Code) (b : ℕ) (h : b < edges (code_graph c)) where
+  pub edge_asked : made c ≡ true → let s = (code_graph c).shape in (s.k_b ≤ 51) × (s.m_b ≤ 39) × (1 ≤ s.m_b) × (b < edges_in s)
   unfolding edges
-  edge_asked m =
-      let S = (sized c m).shape in
-      subst (λ (x : Shape). (x.k_b ≤ 51) × (x.m_b ≤ 39) × (1 ≤ x.m_b) × (b < edges_in x))
-      (sym (ap (λ g. g.shape) lent)) (S.info_most, S.rows_most, omega (arith, S.rows), h)
+  edge_asked m = let S = (sized c m).shape in (S.info_most, S.rows_most, omega (arith, S.rows), h)
 
-  pub edge_told_lem : {e : Edge} → e ≡ edge_of (graph_in s rows shifts) b → e ≡ edge_of (code_graph c) b
-  edge_told_lem told = told ∙ ap (λ g. edge_of g b) lent
-
-  pub edged : {e : Edge} → e ≡ edge_of (graph_in s rows shifts) b → Edged c b e
+  pub edged : {e : Edge} → e ≡ edge_of (code_graph c) b → Edged c b e
   unfolding edge_of
   edged told =
-      subst (Edged c b) (sym (edge_told_lem told))
+      subst (Edged c b) (sym told)
       (record {
         row_is = refl;
         column_is = refl;

@@ -1,4 +1,5 @@
 -- The codes that Choice gives: what a record that passes refusal 11's test is, and its sizes. Assumes nothing.
+use Rattle.std.specs.Prelude.{Ok, Err}
 use mathlib.Core.Path.{◌≡◌, refl, sym, ap, ◌∙◌, subst}
 use mathlib.Core.Bool.{Bool, true, false, cond, ◌&&◌}
 use mathlib.Core.List.{[], ◌∷◌}
@@ -10,9 +11,9 @@ use native.Mathlib.Decide.{dec_lt, ℕ_discrete}
 use borrow.Author.Tests.{ltb-true, ltb-false, eqb-true}
 use lib.Dec.{eqb}
 use lib.ListN.{get_or}
-use Rattle.refusals.specs.Told.{Told, gave, refused}
+use Rattle.refusals.specs.Outcome.{Outcome, refused}
 use Rattle.tables.specs.declared.Shape.{Shape}
-use Rattle.tables.specs.Graph.{graph_number, base_columns, shape_of, graph_of}
+use Rattle.tables.specs.Graph.{graph_number, base_columns, shape_of, graph_of, IsTableShape}
 use Rattle.tables.proofs.Sizes.{Shaped, shaped}
 use Rattle.matrix.specs.Edges.{edges}
 use Rattle.ldpc.specs.declared.choice.Code.{Code}
@@ -29,7 +30,7 @@ and_right : (a b : Bool) → (a && b) ≡ true → b ≡ true
 and_right true b e = e
 and_right false b e = cc
 
--- 01, "Choice", as one statement: the family serves, and none before it does
+-- the choice of a code as one statement: the family serves, and none before it does
 pub record Chosen (rate n : ℕ) (c : Code) : Type 0 where
   pub is : c ≡ code_of (min rate 5) c.family n
   pub short : n ≤ 19440
@@ -37,9 +38,9 @@ pub record Chosen (rate n : ℕ) (c : Code) : Type 0 where
   pub serving : serves (shape_of (graph_number (min rate 5) c.family)) n ≡ true
   pub earlier : (f : ℕ) → f < c.family → serves (shape_of (graph_number (min rate 5) f)) n ≡ false
 
-pub record Given (t : Told Code) : Type 0 where
+pub record Given (t : Outcome Code) : Type 0 where
   pub code : Code
-  pub gives : t ≡ gave code
+  pub gives : t ≡ Ok code
 
 module _ (rate n : ℕ) where
   S : ℕ → Bool
@@ -62,8 +63,8 @@ module _ (rate n : ℕ) where
   taken f h l p k = record { is = refl; short = h; family_lt = l; serving = p; earlier = k }
 
   from_tried : n ≤ 19440 → (c : Code) (a b d : Bool) → S 0 ≡ a → S 1 ≡ b → S 2 ≡ d
-      → cond a (gave (code_of (min rate 5) 0 n)) (cond b (gave (code_of (min rate 5) 1 n)) (cond d (gave (code_of (min rate 5) 2 n)) (refused 1 1 n)))
-      ≡ gave c → Chosen rate n c
+      → cond a (Ok (code_of (min rate 5) 0 n)) (cond b (Ok (code_of (min rate 5) 1 n)) (cond d (Ok (code_of (min rate 5) 2 n)) (refused 1 1 n)))
+      ≡ Ok c → Chosen rate n c
   from_tried h c true b d p q r e =
       let k : code_of (min rate 5) 0 n ≡ c = cc in subst (Chosen rate n) k (taken 0 h (omega arith) p none)
   from_tried h c false true d p q r e =
@@ -73,16 +74,16 @@ module _ (rate n : ℕ) where
   from_tried h c false false false p q r e = let k : ◌≡◌ {A = ℕ} 0 1 = cc in absurd (omega arith)
 
   -- what Choice gives is chosen by the rule
-  pub chosen_rule : (c : Code) → chosen rate n ≡ gave c → Chosen rate n c
+  pub chosen_rule : (c : Code) → chosen rate n ≡ Ok c → Chosen rate n c
   unfolding S tried_from
   chosen_rule c e = by (dec_lt 19440 n)
     where
       by : Dec (19440 < n) → Chosen rate n c
-      by (yes h) = let k : refused 2 n 19440 ≡ gave c = sym (chosen_long rate n h) ∙ e in let m : ◌≡◌ {A = ℕ} 0 1 = cc in absurd (omega arith)
+      by (yes h) = let k : refused 2 n 19440 ≡ Ok c = sym (chosen_long rate n h) ∙ e in let m : ◌≡◌ {A = ℕ} 0 1 = cc in absurd (omega arith)
       by (no h) = from_tried (omega arith) c (S 0) (S 1) (S 2) refl refl refl (sym (chosen_short rate n (omega arith)) ∙ e)
 
   decided_by : (a b d : Bool) → S 0 ≡ a → S 1 ≡ b → S 2 ≡ d
-      → Given (cond a (gave (code_of (min rate 5) 0 n)) (cond b (gave (code_of (min rate 5) 1 n)) (cond d (gave (code_of (min rate 5) 2 n)) (refused 1 1 n))))
+      → Given (cond a (Ok (code_of (min rate 5) 0 n)) (cond b (Ok (code_of (min rate 5) 1 n)) (cond d (Ok (code_of (min rate 5) 2 n)) (refused 1 1 n))))
       ⊎ ((f : ℕ) → f < 3 → S f ≡ false)
   decided_by true b d p q r = inl (record { code = code_of (min rate 5) 0 n; gives = refl })
   decided_by false true d p q r = inl (record { code = code_of (min rate 5) 1 n; gives = refl })
@@ -123,15 +124,15 @@ same a b e =
       shortened = eqb-true a.shortened b.shortened (and_right (t1 && t2 && t3 && t4 && t5) t6 e) i;
     }
 
-pub made_chosen : (c : Code) → made c ≡ true → chosen c.rate c.n_tx ≡ gave c
+pub made_chosen : (c : Code) → made c ≡ true → chosen c.rate c.n_tx ≡ Ok c
 unfolding made
 made_chosen c e = by (chosen c.rate c.n_tx) e
   where
-    by : (t : Told Code) → is_given t c ≡ true → t ≡ gave c
-    by (gave d) e = ap gave (same d c e)
-    by (refused a p q) e = cc
+    by : (t : Outcome Code) → is_given t c ≡ true → t ≡ Ok c
+    by (Ok d) e = ap Ok (same d c e)
+    by (Err x) e = cc
 
--- 01, "Choice": the sizes of a code that is given, s being its graph's shape
+-- the sizes of a code that is given, s being its graph's shape
 pub record Sized (c : Code) (s : Shape) : Type 0 where
   pub shape : Shaped s
   pub rate_lt : c.rate < 6
@@ -226,6 +227,10 @@ module _ (c : Code) (m : made c ≡ true) where
         info_most = rw (mul_comm s.k_b c.z) (omega (arith, k_is, serves_is, covers, d, e));
       }
 
+pub graph_bounds : (rate family : ℕ) → IsTableShape (graph_of (graph_number rate family)).shape
+unfolding graph_of
+graph_bounds rate family = let S = shaped rate family in (S.info, S.info_most, S.rows, S.rows_most, S.columns, S.columns_most)
+
 -- what a shape that was asked for a code tells: the counts that the calls compute from it
 pub record Known (c : Code) (s : Shape) : Type 0 where
   pub shape : Shaped s
@@ -239,3 +244,7 @@ known c m s e =
     let S = sized c m in
     subst (Known c) (sym e)
     (record { shape = S.shape; checks = refl; checks_most = mul-le-mul S.shape.rows_most S.lift_most; all_edges = refl })
+
+-- the bounds that a valid code carries
+pub bounds : (c : Code) → made c ≡ true → (1 ≤ c.z) × (c.z ≤ 324) × (1 ≤ c.k) × (c.k ≤ c.n_tx) × (c.n_tx ≤ 19440)
+bounds c m = let S = sized c m in (S.lift, S.lift_most, S.info, omega (arith, S.parity), S.length_most)

@@ -1,11 +1,11 @@
 -- The theorems on codes that docs/CLAIMS.md names, beside `chosen_rule` and `decided` of Made. Assumes nothing.
+use Rattle.std.specs.Prelude.{Ok}
 use mathlib.Core.Path.{◌≡◌, refl, ap, ap₂, ◌∙◌}
 use mathlib.Core.Bool.{true}
 use Prim.Native.Nat.{ℕ, ◌+◌, ◌*◌, ◌-◌, ◌≤◌, min}
 use native.Mathlib.Omega.{arith}
 use native.Mathlib.Nat.{mul-le-mul, mul_comm}
 use borrow.Author.Tests.{eq-eqb}
-use Rattle.refusals.specs.Told.{gave}
 use Rattle.matrix.specs.Edges.{edges}
 use Rattle.ldpc.specs.declared.choice.Code.{Code}
 use Rattle.ldpc.specs.Choice.{code_of, chosen, same_code, is_given, made}
@@ -29,7 +29,7 @@ unfolding chosen
 chosen_index rate n = let m : min (min rate 5) 5 ≡ min rate 5 = omega arith in rw m
 
 -- what Choice gives passes refusal 11's test
-pub given_made : (rate n : ℕ) (c : Code) → chosen rate n ≡ gave c → made c ≡ true
+pub given_made : (rate n : ℕ) (c : Code) → chosen rate n ≡ Ok c → made c ≡ true
 unfolding made code_of
 given_made rate n c e =
     let is = (chosen_rule rate n c e).is in

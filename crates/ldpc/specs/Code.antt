@@ -1,4 +1,4 @@
--- What the getters answer of a code record: 01, "Records", "Table, code, graph". Assumes nothing.
+-- What the getters answer of a code record. Assumes nothing.
 use Rattle.std.specs.Prelude.{ℕ, ◌+◌, ◌*◌}
 use Rattle.tables.specs.declared.BaseGraph.{BaseGraph}
 use Rattle.tables.specs.Graph.{graph_number, graph_of}
@@ -17,6 +17,6 @@ info_end c = (code_graph c).shape.k_b * c.z
 unfoldable pub checks_of : Code → ℕ
 checks_of c = (code_graph c).shape.m_b * c.z
 
--- 01, "Work memory": 2 * N + 2 * E
+-- the work memory: 2 * N + 2 * E, for the N bits and the E messages of a lifted graph
 unfoldable pub work_of : Code → ℕ
 work_of c = 2 * ((code_graph c).shape.n_b * c.z) + 2 * (edges (code_graph c) * c.z)

@@ -1,14 +1,14 @@
-// The code record, and its choice: 01, "Records", "Choice".
-ghost use Rattle.std.specs.Prelude.{◌≡◌, ◌<◌, ◌≤◌};
-ghost use Rattle.refusals.specs.Told.{refused};
-ghost use Rattle.ldpc.specs.Choice.{lift_of, tried_from, chosen, told, made, same_code};
+// The code record, and its choice.
+ghost use Rattle.std.specs.Prelude.{◌≡◌, ◌*◌, ◌<◌, ◌≤◌};
+ghost use Rattle.refusals.specs.Outcome.{outcome};
+ghost use Rattle.ldpc.specs.Choice.{lift_of, family_code, chosen, made};
 
 use refusals::Refusal;
 use tables::Shape;
 
 // A code: the rate's index, the transmitted bits, the family (0 large, 1 small, 2 tiny), the lift, the information bits
-// and the shortened bits.
-#[derive(Clone, Copy)]
+// and the shortened bits. The record is plain numbers, so that a host may keep it; what Choice did not give is refused by the calls.
+#[derive(Clone, Copy, Debug, PartialEq, Eq)]
 pub struct Code {
     pub rate: usize,
     pub n_tx: usize,
@@ -18,52 +18,15 @@ pub struct Code {
     pub shortened: usize,
 }
 
-#[derive(Clone, Copy)]
-pub enum Choice {
-    Made(Code),
-    Refused(Refusal),
-}
-
 // n / n_b rounded up, at least 1.
+#[tactic(auto, using(crate::proofs::Lift::lift_covers), unfolding(crate::specs::Choice::lift_of))]
 fn lift_for(s: Shape, n: usize) -> usize
     requires { (0 < s.n_b) × (s.n_b ≤ 60) × (n ≤ 19440) }
-    ensures { result ≡ lift_of s n }
+    ensures value { result ≡ lift_of s n }
+    ensures covers { n ≤ result * s.n_b }
+    ensures most { result ≤ 19440 }
 {
-    let z = (n + s.n_b - 1) / s.n_b;
-    if 1 < z { z } else { 1 }
-}
-
-// The code of one family, where it serves.
-fn try_family(rate: usize, family: usize, n: usize) -> Choice
-    requires { n ≤ 19440 }
-    ensures { told result ≡ tried_from rate family n (refused 1 1 n) }
-{
-    let s = tables::shape_of(rate, family);
-    let z = lift_for(s, n);
-    let parity = z * s.m_b;
-    if n <= parity {
-        return Choice::Refused(Refusal::NoFamily(n));
-    }
-    Choice::Made(Code {
-        rate: rate,
-        n_tx: n,
-        family: family,
-        z: z,
-        k: n - parity,
-        shortened: z * s.n_b - n,
-    })
-}
-
-// Whether two records are the same.
-fn same_code(a: Code, b: Code) -> bool
-    ensures { result ≡ same_code a b }
-{
-    (a.rate == b.rate)
-        & (a.n_tx == b.n_tx)
-        & (a.family == b.family)
-        & (a.z == b.z)
-        & (a.k == b.k)
-        & (a.shortened == b.shortened)
+    ((n + s.n_b - 1) / s.n_b).max(1)
 }
 
 impl Code {
@@ -74,33 +37,48 @@ impl Code {
 
     pub const CERTAIN: f32 = 1000000.0;
 
-    // The code for n_tx transmitted bits at a rate: the first family that serves. A rate above 5 counts as 5.
-    pub fn new(rate: usize, n_tx: usize) -> Choice
-        ensures { told result ≡ chosen rate n_tx }
+    // The code of one family, where it serves.
+    #[tactic(auto, unfolding(crate::specs::Choice::family_code, crate::specs::Choice::serves, crate::specs::Choice::code_of))]
+    fn of_family(rate: usize, family: usize, n_tx: usize) -> Option<Code>
+        requires { n_tx ≤ 19440 }
+        ensures { result ≡ family_code rate family n_tx }
     {
-        if 19440 < n_tx {
-            return Choice::Refused(Refusal::TooLong(n_tx));
+        let s = tables::shape_of(rate, family);
+        let z = lift_for(s, n_tx);
+        let parity = z * s.m_b;
+        if n_tx <= parity {
+            return None;
         }
-        let r = numbers::lesser(rate, 5);
-        let large = try_family(r, 0, n_tx);
-        if let Choice::Made(c) = large {
-            return Choice::Made(c);
-        }
-        let small = try_family(r, 1, n_tx);
-        if let Choice::Made(c) = small {
-            return Choice::Made(c);
-        }
-        try_family(r, 2, n_tx)
+        Some(Code {
+            rate,
+            n_tx,
+            family,
+            z,
+            k: n_tx - parity,
+            shortened: z * s.n_b - n_tx,
+        })
     }
 
-    // Whether Choice gives this record for its rate and n_tx: where not, refusal 11.
+    // The code for n_tx transmitted bits at a rate: the first family that serves. A rate above 5 counts as 5.
+    #[tactic(auto, unfolding(crate::specs::Choice::chosen, crate::specs::Choice::tried_from, crate::specs::Choice::family_code))]
+    pub fn new(rate: usize, n_tx: usize) -> Result<Code, Refusal>
+        ensures { outcome result ≡ chosen rate n_tx }
+    {
+        if n_tx > 19440 {
+            return Err(Refusal::TooLong(n_tx));
+        }
+        let rate = rate.min(5);
+        Code::of_family(rate, 0, n_tx)
+            .or_else(|| Code::of_family(rate, 1, n_tx))
+            .or_else(|| Code::of_family(rate, 2, n_tx))
+            .ok_or(Refusal::NoFamily(n_tx))
+    }
+
+    // Whether Choice gives this record for its rate and n_tx.
+    #[tactic(auto, unfolding(crate::specs::Choice::made, crate::specs::Choice::same_code))]
     pub fn is_made(self) -> bool
         ensures { result ≡ made self }
     {
-        let choice = Code::new(self.rate, self.n_tx);
-        let Choice::Made(c) = choice else {
-            return false;
-        };
-        same_code(c, self)
+        Code::new(self.rate, self.n_tx) == Ok(self)
     }
 }

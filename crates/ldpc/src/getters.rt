@@ -7,13 +7,6 @@ use crate::choice::Code;
 use base_edges::Edge;
 use tables::Shape;
 
-// The answer of `base_edge`.
-#[derive(Clone, Copy)]
-pub enum EdgeAt {
-    Edge(Edge),
-    None,
-}
-
 impl Code {
     pub fn info_bits(self) -> usize
         ensures { result ≡ self.k }
@@ -40,66 +33,55 @@ impl Code {
     }
 
     // How many parity checks there are.
+    #[tactic(auto, unfolding(crate::specs::Getters::checks_told))]
     pub fn checks(self) -> usize
         ensures { result ≡ checks_told self }
     {
-        if !self.is_made() {
-            return 0;
-        }
-        let s = tables::shape_of(self.rate, self.family);
-        s.m_b * self.z
+        self.valid().map_or(0, |v| v.checks())
     }
 
+    #[tactic(auto, unfolding(crate::specs::Getters::shape_told))]
     pub fn base_shape(self) -> Shape
         ensures { result ≡ shape_told self }
     {
-        if !self.is_made() {
-            return Shape {
-                n_b: 0,
-                k_b: 0,
-                m_b: 0,
-            };
-        }
-        tables::shape_of(self.rate, self.family)
+        let none = Shape {
+            n_b: 0,
+            k_b: 0,
+            m_b: 0,
+        };
+        self.valid().map_or(none, |v| v.shape())
     }
 
     // k / n_tx.
+    #[tactic(auto, unfolding(crate::specs::Getters::rate_told))]
     pub fn effective_rate(self) -> f32
         ensures { result ≡ rate_told self }
     {
-        if !self.is_made() {
+        let Ok(v) = self.valid() else {
             return 0.0;
-        }
-        let k = self.k as u16;
-        let n = self.n_tx as u16;
-        (k as f32) / (n as f32)
+        };
+        let k = v.code.k as u16;
+        let n = v.code.n_tx as u16;
+        f32::from(k) / f32::from(n)
     }
 
     // Base edge b, where there is one.
-    pub fn base_edge(self, b: usize) -> EdgeAt
+    #[tactic(auto, unfolding(crate::specs::Getters::edge_told, matrix::specs::Edges::edges))]
+    pub fn base_edge(self, b: usize) -> Option<Edge>
         ensures { result ≡ edge_told self b }
     {
-        if !self.is_made() {
-            return EdgeAt::None;
+        let v = self.valid().ok()?;
+        if b >= v.edges() {
+            return None;
         }
-        let g = tables::graph_of(self.rate, self.family);
-        let s = g.shape;
-        if 3 * s.k_b + 2 * s.m_b + 1 <= b {
-            return EdgeAt::None;
-        }
-        let rows = g.rows;
-        let shifts = g.shifts;
-        EdgeAt::Edge(base_edges::edge_at(s, &rows, &shifts, b))
+        Some(base_edges::edge_at(&v.graph(), b))
     }
 
     // How many numbers of work memory a decode needs.
+    #[tactic(auto, unfolding(crate::specs::Getters::work_told))]
     pub fn work_needed(self) -> usize
         ensures { result ≡ work_told self }
     {
-        if !self.is_made() {
-            return 0;
-        }
-        let s = tables::shape_of(self.rate, self.family);
-        2 * (s.n_b * self.z) + 2 * ((3 * s.k_b + 2 * s.m_b + 1) * self.z)
+        self.valid().map_or(0, |v| v.work_needed())
     }
 }

@@ -4,6 +4,7 @@
 
 mod choice;
 mod getters;
+mod valid;
 
-pub use choice::{Choice, Code};
-pub use getters::EdgeAt;
+pub use choice::Code;
+pub use valid::ValidCode;

@@ -2,9 +2,9 @@
 use mathlib.Core.Path.{◌≡◌}
 use Prim.Native.Nat.{ℕ}
 use borrow.Author.Tests.{eq-eqb, ne_eqb}
-use Rattle.refusals.specs.Told.{Told, refused, if_length}
+use Rattle.refusals.specs.Outcome.{Outcome, refused, if_length}
 
-module _ {A : Type 0} (rest : Told A) (number given wanted : ℕ) where
+module _ {A : Type 0} (rest : Outcome A) (number given wanted : ℕ) where
   pub length_passed : given ≡ wanted → if_length number given wanted rest ≡ rest
   unfolding if_length
   length_passed h = rw (eq-eqb given wanted h)

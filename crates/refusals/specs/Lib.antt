@@ -1,2 +1,2 @@
--- What a call tells. Assumes nothing.
-pub mod Told
+-- What a call comes to. Assumes nothing.
+pub mod Outcome

@@ -1,117 +1,89 @@
-// The refusals of every call: 01, "Who can cause a refusal". Each case holds what its pair needs. Assumes nothing.
+// The refusals of every call, and the tests that make most of them. Assumes nothing.
 #![tactic(auto)]
 
-ghost use Rattle.std.specs.Prelude.{◌≡◌};
-ghost use Rattle.refusals.specs.Told.{numbers_of};
+mod tests;
 
-#[derive(Clone, Copy)]
+ghost use Rattle.std.specs.Prelude.{◌≡◌};
+ghost use Rattle.refusals.specs.Outcome.{numbers_of};
+
+use std::error::Error;
+use std::fmt;
+pub use tests::{in_range, input, iterations, output, work};
+
+// What a call refuses. Each case holds what its pair needs.
+#[derive(Clone, Copy, Debug, PartialEq, Eq)]
 pub enum Refusal {
     // 1: no family serves this n_tx
     NoFamily(usize),
     // 2: an n_tx above 19,440
     TooLong(usize),
     // 3: a design value outside its range, and the limit broken
-    Design(usize, usize),
+    Design { value: usize, limit: usize },
     // 4: the column and the place in it of a row that is not below m_b or is repeated
-    Row(usize, usize),
-    // 5: the input's length, given and wanted
-    Input(usize, usize),
+    Row { column: usize, place: usize },
+    // 5: the input's length
+    Input { given: usize, wanted: usize },
     // 6: the first place with a byte above 1, and the byte
-    NotBit(usize, usize),
+    NotBit { place: usize, value: usize },
     // 7: no such check, and the number of checks
-    NoCheck(usize, usize),
-    // 8: the work memory's length, given and needed
-    Work(usize, usize),
-    // 9: the output's length, given and wanted
-    Output(usize, usize),
+    NoCheck { check: usize, checks: usize },
+    // 8: the work memory's length
+    Work { given: usize, needed: usize },
+    // 9: the output's length
+    Output { given: usize, wanted: usize },
     // 10: iterations and g together, above 65,535
     Iterations(usize),
     // 11: the rate and n_tx of a code record that Choice does not give
-    Record(usize, usize),
-}
-
-// What a call that counts answers.
-#[derive(Clone, Copy)]
-pub enum Counted {
-    Count(usize),
-    Refused(Refusal),
-}
-
-// What a call that fills its outputs answers.
-#[derive(Clone, Copy)]
-pub enum Filled {
-    Done,
-    Refused(Refusal),
+    Record { rate: usize, n_tx: usize },
 }
 
 // A refusal's number and its pair.
-#[derive(Clone, Copy)]
+#[derive(Clone, Copy, Debug, PartialEq, Eq)]
 pub struct Numbers {
     pub number: usize,
     pub first: usize,
     pub second: usize,
 }
 
+impl From<Refusal> for Numbers {
+    ghost from_gives = { λ r n. n ≡ numbers_of r };
+
+    fn from(r: Refusal) -> Numbers {
+        let (number, first, second) = match r {
+            Refusal::NoFamily(n_tx) => (1, 1, n_tx),
+            Refusal::TooLong(n_tx) => (2, n_tx, 19440),
+            Refusal::Design { value, limit } => (3, value, limit),
+            Refusal::Row { column, place } => (4, column, place),
+            Refusal::Input { given, wanted } => (5, given, wanted),
+            Refusal::NotBit { place, value } => (6, place, value),
+            Refusal::NoCheck { check, checks } => (7, check, checks),
+            Refusal::Work { given, needed } => (8, given, needed),
+            Refusal::Output { given, wanted } => (9, given, wanted),
+            Refusal::Iterations(sum) => (10, sum, 65535),
+            Refusal::Record { rate, n_tx } => (11, rate, n_tx),
+        };
+        Numbers {
+            number,
+            first,
+            second,
+        }
+    }
+}
+
 impl Refusal {
     pub fn numbers(self) -> Numbers
         ensures { result ≡ numbers_of self }
     {
-        match self {
-            Refusal::NoFamily(n) => Numbers {
-                number: 1,
-                first: 1,
-                second: n,
-            },
-            Refusal::TooLong(n) => Numbers {
-                number: 2,
-                first: n,
-                second: 19440,
-            },
-            Refusal::Design(v, l) => Numbers {
-                number: 3,
-                first: v,
-                second: l,
-            },
-            Refusal::Row(c, p) => Numbers {
-                number: 4,
-                first: c,
-                second: p,
-            },
-            Refusal::Input(g, w) => Numbers {
-                number: 5,
-                first: g,
-                second: w,
-            },
-            Refusal::NotBit(p, v) => Numbers {
-                number: 6,
-                first: p,
-                second: v,
-            },
-            Refusal::NoCheck(c, n) => Numbers {
-                number: 7,
-                first: c,
-                second: n,
-            },
-            Refusal::Work(g, n) => Numbers {
-                number: 8,
-                first: g,
-                second: n,
-            },
-            Refusal::Output(g, w) => Numbers {
-                number: 9,
-                first: g,
-                second: w,
-            },
-            Refusal::Iterations(s) => Numbers {
-                number: 10,
-                first: s,
-                second: 65535,
-            },
-            Refusal::Record(r, n) => Numbers {
-                number: 11,
-                first: r,
-                second: n,
-            },
-        }
+        self.into()
     }
 }
+
+// As the programs print it.
+impl fmt::Display for Refusal {
+    fn fmt<W: fmt::Write>(&self, f: &mut fmt::Formatter<W>) -> fmt::Result {
+        let n = self.numbers();
+        write!(f, "refused {} {} {}", n.number, n.first, n.second)
+    }
+}
+
+impl Error for Refusal {}

@@ -1,6 +1,5 @@
 // The base edges and the check lists of a code.
-use ldpc::{Code, EdgeAt};
-use refusals::Counted;
+use ldpc::Code;
 use std::io;
 use text::{print_summed, sum_step};
 
@@ -11,7 +10,7 @@ pub fn print_edges(rt: &impl Print, c: Code) -> io::Result<()> {
     let mut b = 0;
     while b < 200 {
         let at = c.base_edge(b);
-        if let EdgeAt::Edge(e) = at {
+        if let Some(e) = at {
             h = sum_step(sum_step(sum_step(h, e.row), e.column), e.shift);
             count += 1;
         }
@@ -48,7 +47,7 @@ fn print_check(rt: &impl Print, c: Code, check: usize, full: bool) -> io::Result
     let mut members: [u32; 64] = [0; 64];
     let counted = coder::check_members(c, check, &mut members);
     match counted {
-        Counted::Count(n) => {
+        Ok(n) => {
             if full {
                 text::print_bytes(rt, b"list ")?;
                 text::print_number(rt, check, b' ')?;
@@ -61,7 +60,7 @@ fn print_check(rt: &impl Print, c: Code, check: usize, full: bool) -> io::Result
             text::print_bytes(rt, b"count ")?;
             text::print_number(rt, n, b'\n')
         }
-        Counted::Refused(r) => text::print_refusal(rt, r, b'\n'),
+        Err(r) => text::print_refusal(rt, r, b'\n'),
     }
 }
 

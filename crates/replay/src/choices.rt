@@ -1,5 +1,5 @@
 // The choice of a code, for every rate up to 7: those above 5 count as 5.
-use ldpc::{Choice, Code};
+use ldpc::Code;
 use std::io;
 
 // The family, the lift, the information bits and the shortened bits; or the refusal.
@@ -9,13 +9,13 @@ fn print_choice(rt: &impl Print, rate: usize, n_tx: usize) -> io::Result<()> {
     text::print_number(rt, n_tx, b' ')?;
     let choice = Code::new(rate, n_tx);
     match choice {
-        Choice::Made(c) => {
+        Ok(c) => {
             text::print_number(rt, c.family, b' ')?;
             text::print_number(rt, c.z, b' ')?;
             text::print_number(rt, c.k, b' ')?;
             text::print_number(rt, c.shortened, b'\n')
         }
-        Choice::Refused(r) => text::print_refusal(rt, r, b'\n'),
+        Err(r) => text::print_refusal(rt, r, b'\n'),
     }
 }
 

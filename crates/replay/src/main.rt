@@ -8,7 +8,7 @@ mod choices;
 mod inputs;
 mod words;
 
-use ldpc::{Choice, Code};
+use ldpc::Code;
 use std::io;
 
 // What the getters answer.
@@ -30,7 +30,7 @@ fn print_getters(rt: &impl Print, c: Code) -> io::Result<()> {
 fn print_code(rt: &impl Print, rate: usize, n_tx: usize) -> io::Result<()> {
     let choice = Code::new(rate, n_tx);
     match choice {
-        Choice::Made(c) => {
+        Ok(c) => {
             print_getters(rt, c)?;
             checks::print_edges(rt, c)?;
             checks::print_checks(rt, c)?;
@@ -38,7 +38,7 @@ fn print_code(rt: &impl Print, rate: usize, n_tx: usize) -> io::Result<()> {
             words::print_encoding(rt, c, 777)?;
             words::print_unsatisfied(rt, c, 4321)
         }
-        Choice::Refused(r) => text::print_refusal(rt, r, b'\n'),
+        Err(r) => text::print_refusal(rt, r, b'\n'),
     }
 }
 

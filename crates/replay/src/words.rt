@@ -7,14 +7,13 @@ ghost use Rattle.replay.specs.Inputs.{changed};
 use crate::inputs::flip;
 use ldpc::Code;
 use readings::fill_bits;
-use refusals::{Counted, Filled};
 use std::io;
 
-fn print_encoded(rt: &impl Print, answer: Filled, word: &[u8]) -> io::Result<()> {
+fn print_encoded(rt: &impl Print, answer: Result<(), Refusal>, word: &[u8]) -> io::Result<()> {
     text::print_bytes(rt, b"encoding ")?;
     match answer {
-        Filled::Done => text::print_word(rt, word, 200),
-        Filled::Refused(r) => text::print_refusal(rt, r, b'\n'),
+        Ok(()) => text::print_word(rt, word, 200),
+        Err(r) => text::print_refusal(rt, r, b'\n'),
     }
 }
 
@@ -23,8 +22,8 @@ fn print_count(rt: &impl Print, c: Code, kind: &[u8], word: &[u8]) -> io::Result
     text::print_bytes(rt, kind)?;
     let counted = coder::unsatisfied(c, word);
     match counted {
-        Counted::Count(n) => text::print_number(rt, n, b'\n'),
-        Counted::Refused(r) => text::print_refusal(rt, r, b'\n'),
+        Ok(n) => text::print_number(rt, n, b'\n'),
+        Err(r) => text::print_refusal(rt, r, b'\n'),
     }
 }
 

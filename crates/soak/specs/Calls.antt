@@ -1,6 +1,6 @@
 -- The calls of a list: how one is drawn, and what it is to refuse. Assumes nothing.
 use Rattle.std.specs.Prelude.{Bool, true, false, cond, ◌&&◌, ℕ, ◌+◌, ◌-◌, ◌/◌, ◌%◌, eqb, ltb}
-use Rattle.refusals.specs.Told.{numbers_of}
+use Rattle.refusals.specs.Outcome.{numbers_of}
 use Rattle.refusals.specs.declared.Numbers.{Numbers}
 use Rattle.ldpc.specs.Getters.{work_told}
 use Rattle.decoder.specs.declared.record.Decode.{Decode}

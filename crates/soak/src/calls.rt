@@ -3,7 +3,7 @@ ghost use Rattle.std.specs.Prelude.{◌≡◌};
 ghost use Rattle.soak.specs.Calls;
 ghost use Rattle.soak.specs.Calls.{amount_of, lent_of, room_of, call_of, plain_of, changed_of, grant_refusal, read_refusal, refused_grant, refused_read};
 
-use decoder::{Decode, Granted, ReadOut};
+use decoder::Decode;
 use ldpc::Code;
 use refusals::Numbers;
 
@@ -151,20 +151,20 @@ pub fn read_refusal(d: Decode, call: Call) -> Numbers
 }
 
 // What an answer refuses.
-pub fn refused_grant(answer: Granted) -> Numbers
+pub fn refused_grant(answer: Result<Decode, Refusal>) -> Numbers
     ensures { result ≡ refused_grant answer }
 {
     match answer {
-        Granted::Decode(_) => refusal(0, 0, 0),
-        Granted::Refused(r) => r.numbers(),
+        Ok(_) => refusal(0, 0, 0),
+        Err(r) => r.numbers(),
     }
 }
 
-pub fn refused_read(answer: ReadOut) -> Numbers
+pub fn refused_read(answer: Result<DecodeResult, Refusal>) -> Numbers
     ensures { result ≡ refused_read answer }
 {
     match answer {
-        ReadOut::Result(_) => refusal(0, 0, 0),
-        ReadOut::Refused(r) => r.numbers(),
+        Ok(_) => refusal(0, 0, 0),
+        Err(r) => r.numbers(),
     }
 }

@@ -14,8 +14,8 @@ mod tally;
 ghost use Rattle.std.specs.Prelude.{◌<◌};
 
 use calls::Call;
-use decoder::{Decode, DecodeResult, Granted, ReadOut};
-use ldpc::{Choice, Code};
+use decoder::{Decode, DecodeResult};
+use ldpc::Code;
 use std::io;
 use tally::Totals;
 
@@ -62,7 +62,7 @@ impl Run {
     }
 }
 
-// The places where what a read gave differs from the unbroken decode, in another memory.
+// The places where what a read Ok differs from the unbroken decode, in another memory.
 fn differences(
     c: Code,
     limit: u16,
@@ -75,7 +75,7 @@ fn differences(
 ) -> usize {
     let n = numbers::lesser(c.n_tx, word.len());
     let answer = decoder::decode(c.rate, c.n_tx, rx, limit, other, &mut word[..n]);
-    let ReadOut::Result(u) = answer else {
+    let Ok(u) = answer else {
         return 1;
     };
     let told = compare::results_apart(r, u);
@@ -113,8 +113,8 @@ fn read_call(run: Run, call: Call, rx: &[f32], work: &[f32]) -> Run {
     let apart = compare::refusals_apart(calls::refused_read(answer), wanted);
     let next = run.with(tally::DIFFERENCES, apart);
     match answer {
-        ReadOut::Result(r) => accepted_read(next, r, &out, rx, work),
-        ReadOut::Refused(_) => refused_read(next, &out),
+        Ok(r) => accepted_read(next, r, &out, rx, work),
+        Err(_) => refused_read(next, &out),
     }
 }
 
@@ -126,7 +126,7 @@ fn grant_call(run: Run, call: Call, rx: &[f32], work: &mut [f32]) -> Run {
     let wanted = calls::grant_refusal(run.decode, call);
     let apart = compare::refusals_apart(calls::refused_grant(answer), wanted);
     let next = run.with(tally::DIFFERENCES, apart);
-    let Granted::Decode(e) = answer else {
+    let Ok(e) = answer else {
         let plain = calls::plain_of(run.decode, work.len());
         return read_call(next.with(tally::REFUSALS, 1), plain, rx, work);
     };
@@ -155,7 +155,7 @@ fn some_calls(run: Run, n: usize, rx: &[f32], work: &mut [f32]) -> Run {
 // A start, which is to be accepted, a list of 3 to 8 calls, and a read.
 fn soak_list(c: Code, seed: usize, rx: &[f32], work: &mut [f32], totals: Totals) -> Totals {
     let answer = Decode::start(c, rx, work);
-    let Granted::Decode(d) = answer else {
+    let Ok(d) = answer else {
         return totals.with(tally::DIFFERENCES, 1);
     };
     let begun = Run {
@@ -176,7 +176,7 @@ fn soak_code(rate: usize, n_tx: usize, turn: usize, totals: Totals) -> Totals
     requires { (rate < 6) × (turn < 4) }
 {
     let choice = Code::new(rate, n_tx);
-    let Choice::Made(c) = choice else {
+    let Ok(c) = choice else {
         return totals;
     };
     let k = numbers::lesser(c.k, 1000);

@@ -1,11 +1,12 @@
 -- The starred rows of 01's commissioning table, and the test that a row holds of the definitions. Assumes nothing.
+use Rattle.std.specs.Prelude.{Ok}
 use Rattle.std.specs.Prelude.{Bool, true, false, ◌&&◌, ◌||◌, List, [], ◌∷◌, ℕ, eqb, ℤ, pos, Float}
 use Rattle.std.specs.Bool.{beq}
 use Rattle.std.proofs.Math.Option.{Option, none, some}
 use Rattle.std.specs.Float.{fin}
 use Rattle.laws.specs.Run.{Progress}
 use Rattle.laws.specs.Written.{tabulate}
-use Rattle.refusals.specs.Told.{Told, gave, refused}
+use Rattle.refusals.specs.Outcome.{Outcome, refused}
 use Rattle.ldpc.specs.declared.choice.Code.{Code}
 use Rattle.ldpc.specs.Choice.{chosen}
 use Rattle.coder.specs.Calls.{encoding_of, unsatisfied_of}
@@ -61,8 +62,8 @@ same_word [] (y ∷ b) = false
 same_word (x ∷ a) [] = false
 same_word (x ∷ a) (y ∷ b) = eqb x y && same_word a b
 
-unfoldable pub is_refused : Told Code → ℕ → ℕ → ℕ → Bool
-is_refused (gave c) number first second = false
+unfoldable pub is_refused : Outcome Code → ℕ → ℕ → ℕ → Bool
+is_refused (Ok c) number first second = false
 is_refused (refused n a b) number first second = eqb n number && eqb a first && eqb b second
 
 -- what 01 leaves unsaid is met by any number

@@ -60,7 +60,7 @@ shaped rate family =
       columns_most = z.columns_most;
     }
 
--- 01, "Graphs": the graphs follow one another from column 0 to column 320, and the lists have three entries a column
+-- the graphs follow one another from column 0 to column 320, and the lists have three entries a column
 pub record Covered : Type 0 where
   pub first : first_column 0 ≡ 0
   pub next : (g : ℕ) → first_column (g + 1) ≡ first_column g + info_columns g

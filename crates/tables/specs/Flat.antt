@@ -1,5 +1,5 @@
 -- The information columns of the 18 base graphs, three (row, shift) pairs each, as two flat lists of 960 numbers, copied from
--- tables.rs: 01, "Graphs". Families in the order large, small, tiny; rates 0 to 5 in each; a line has five columns. Assumes nothing.
+-- tables.rs. Families in the order large, small, tiny; rates 0 to 5 in each; a line has five columns. Assumes nothing.
 use Rattle.std.specs.Prelude.{List, [], ◌∷◌, ℕ}
 
 -- the base rows

@@ -1,4 +1,4 @@
-// The information columns of the 18 base graphs, three (row, shift) pairs each, as two flat tables: 01, "Graphs".
+// The information columns of the 18 base graphs, three (row, shift) pairs each, as two flat tables.
 // Copied from tables.rs. Families in the order large, small, tiny; rates 0 to 5 in each.
 pub const ROWS: [u8; 960] = [
     // large family, rate 0

@@ -1,24 +1,25 @@
 // The 18 base graphs of tables.rs: the shape of a graph, and a whole graph by value. A rate above 5 counts as 5 and a
-// family above 2 as 2 (0 large, 1 small, 2 tiny), so every call answers. Assumes nothing.
+// family above 2 as 2 (0 large, 1 small, 2 tiny), so every call answers; an enum would refuse such numbers. Assumes nothing.
 #![tactic(auto)]
 
 mod flat;
 
-ghost use Rattle.std.specs.Prelude.{◌≡◌, ◌<◌};
-ghost use Rattle.tables.specs.Graph.{graph_number, first_column, shape_of, graph_of};
+ghost use Rattle.std.specs.Prelude.{◌≡◌, ◌+◌, ◌<◌, ◌≤◌};
+ghost use Rattle.tables.specs.Graph.{graph_number, info_columns, first_column, shape_of, graph_of, IsTableShape};
 
 use flat::{ROWS, SHIFTS};
 
 // The base columns, the information columns and the base rows of a graph.
-#[derive(Clone, Copy)]
+#[derive(Clone, Copy, Debug, PartialEq, Eq)]
 pub struct Shape {
     pub n_b: usize,
     pub k_b: usize,
     pub m_b: usize,
 }
 
-// A graph: entry 3 * j + i is pair i of information column j; 0 past the last column.
-#[derive(Clone, Copy)]
+// A graph: entry 3 * j + i is pair i of information column j; 0 past the last column. Rows and shifts stay two lists, as the C calls
+// of graph design lend them.
+#[derive(Clone, Copy, Debug, PartialEq, Eq)]
 pub struct BaseGraph {
     pub shape: Shape,
     pub rows: [u8; 153],
@@ -37,35 +38,41 @@ const FIRST_COLUMN: [usize; 18] = [
 ];
 
 // The number of the graph of a rate and a family, below 18.
+#[tactic(auto, unfolding(crate::specs::Graph::graph_number))]
 pub fn graph_number(rate: usize, family: usize) -> usize
-    ensures { result ≡ graph_number rate family }
+    ensures value { result ≡ graph_number rate family }
+    ensures below { result < 18 }
 {
-    6 * numbers::lesser(family, 2) + numbers::lesser(rate, 5)
+    6 * family.min(2) + rate.min(5)
 }
 
 fn first_column(g: usize) -> usize
     requires { g < 18 }
-    ensures { result ≡ first_column g }
+    ensures value { result ≡ first_column g }
+    ensures inside { result + info_columns g ≤ 320 }
 {
     FIRST_COLUMN[g]
 }
 
 fn shape_at(g: usize) -> Shape
     requires { g < 18 }
-    ensures { result ≡ shape_of g }
+    ensures value { result ≡ shape_of g }
+    ensures columns { result.k_b ≡ info_columns g }
+    ensures bounds { IsTableShape result }
 {
     let n_b = BASE_COLUMNS[g / 6];
     let k_b = INFO_COLUMNS[g];
     Shape {
-        n_b: n_b,
-        k_b: k_b,
+        n_b,
+        k_b,
         m_b: n_b - k_b,
     }
 }
 
 // The shape of the graph of a rate and a family.
 pub fn shape_of(rate: usize, family: usize) -> Shape
-    ensures { result ≡ shape_of (graph_number rate family) }
+    ensures value { result ≡ shape_of (graph_number rate family) }
+    ensures bounds { IsTableShape result }
 {
     shape_at(graph_number(rate, family))
 }
@@ -75,22 +82,17 @@ pub fn graph_of(rate: usize, family: usize) -> BaseGraph
     ensures { result ≡ graph_of (graph_number rate family) }
 {
     let g = graph_number(rate, family);
-    let s = shape_at(g);
-    let all_rows = &ROWS;
-    let all_shifts = &SHIFTS;
+    let shape = shape_at(g);
     let at = 3 * first_column(g);
-    let n = 3 * s.k_b;
-    let mut rows: [u8; 153] = [0; 153];
-    let mut shifts: [u16; 153] = [0; 153];
-    let mut i = 0;
-    while i < n {
-        rows[i] = all_rows[at + i];
-        shifts[i] = all_shifts[at + i];
-        i += 1;
+    let mut rows = [0; 153];
+    let mut shifts = [0; 153];
+    for i in 0..3 * shape.k_b {
+        rows[i] = ROWS[at + i];
+        shifts[i] = SHIFTS[at + i];
     }
     BaseGraph {
-        shape: s,
-        rows: rows,
-        shifts: shifts,
+        shape,
+        rows,
+        shifts,
     }
 }

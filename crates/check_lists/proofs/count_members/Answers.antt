@@ -6,7 +6,7 @@ use Rattle.laws.proofs.Collect.{count_more, count_skip}
 use Rattle.check_lists.specs.Members.{is_member}
 use Rattle.check_lists.proofs.Member.{place_told, none_told}
 use Rattle.check_lists.proofs.count_members.Goals as goal
-use Rattle.check_lists.proofs.count_members.Goals.{in-Place, in_default}
+use Rattle.check_lists.proofs.count_members.Goals.{in-Some, in_default}
 
 pub loop-b-init : goal.loop-b-init
 unfolding counted
@@ -21,7 +21,7 @@ loop-b-preserved c =
     let code = c.args.c in
     let check = c.args.check in
     elim c.match-m.branch [
-      | in-Place w ↦ omega (arith, count_more (is_member code check) b (place_told code check b (sym w.in-Place.is ∙ c.member_at-m.ensures)).0)
+      | in-Some w ↦ omega (arith, count_more (is_member code check) b (place_told code check b (sym w.in-Some.is ∙ c.member_at-m.ensures)).0)
       | in_default w ↦ omega (arith, count_skip (is_member code check) b (none_told code check b (sym w.in_default.is ∙ c.member_at-m.ensures)))
     ]
 

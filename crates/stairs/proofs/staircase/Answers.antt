@@ -20,14 +20,14 @@ zeros z h t k = get_or-replicate 324 t 0 0 (omega arith)
 
 pub overflow_mul-s : goal.overflow_mul-s
 overflow_mul-s c =
-    let counts : Known c.args.c c.shape_of-s.result = known c.args.c c.requires.0 c.shape_of-s.result c.shape_of-s.ensures in
+    let counts : Known c.args.c c.shape_of-s.result = known c.args.c c.requires.0 c.shape_of-s.result c.shape_of-s.ensures.value in
     omega (arith, counts.shape.info_most)
 
 pub row_sums-requires : goal.row_sums-requires
 unfolding code_graph graph_of
 row_sums-requires c =
-    let counts : Known c.args.c c.shape_of-s.result = known c.args.c c.requires.0 c.shape_of-s.result c.shape_of-s.ensures in
-    let shape_is : c.shape_of-s.result ≡ (code_graph c.args.c).shape = c.shape_of-s.ensures in
+    let counts : Known c.args.c c.shape_of-s.result = known c.args.c c.requires.0 c.shape_of-s.result c.shape_of-s.ensures.value in
+    let shape_is : c.shape_of-s.result ≡ (code_graph c.args.c).shape = c.shape_of-s.ensures.value in
     (c.requires.0, omega (arith, ap (λ s. s.k_b) shape_is), omega (arith, counts.all_edges), c.requires.2, c.requires.1)
 
 pub slice_bounds-total_of-end : goal.slice_bounds-total_of-end
@@ -36,9 +36,9 @@ slice_bounds-total_of-end c = refl
 pub total_of-requires : goal.total_of-requires
 unfolding code_graph graph_of
 total_of-requires c =
-    let counts : Known c.args.c c.shape_of-s.result = known c.args.c c.requires.0 c.shape_of-s.result c.shape_of-s.ensures in
+    let counts : Known c.args.c c.shape_of-s.result = known c.args.c c.requires.0 c.shape_of-s.result c.shape_of-s.ensures.value in
     let sizes : Sized c.args.c (code_graph c.args.c).shape = sized c.args.c c.requires.0 in
-    let shape_is : c.shape_of-s.result ≡ (code_graph c.args.c).shape = c.shape_of-s.ensures in
+    let shape_is : c.shape_of-s.result ≡ (code_graph c.args.c).shape = c.shape_of-s.ensures.value in
     let sums_are : c.row_sums.new.sums ≡ sums_of c.args.c c.args.info.now (3 * (code_graph c.args.c).shape.k_b) = c.row_sums.ensures ∙ ap (λ s. sums_of c.args.c c.args.info.now (3 * s.k_b)) (shape_is) in
     let n = 3 * (code_graph c.args.c).shape.k_b in (
       omega (arith, counts.checks, c.row_sums.auto.sums, c.requires.2),
@@ -69,7 +69,7 @@ pub put_rows-requires : goal.put_rows-requires
 unfolding code_graph graph_of
 put_rows-requires c =
     let sizes : Sized c.args.c (code_graph c.args.c).shape = sized c.args.c c.requires.0 in
-    let shape_is : c.shape_of-s.result ≡ (code_graph c.args.c).shape = c.shape_of-s.ensures in
+    let shape_is : c.shape_of-s.result ≡ (code_graph c.args.c).shape = c.shape_of-s.ensures.value in
     let sums_are : c.row_sums.new.sums ≡ sums_of c.args.c c.args.info.now (3 * (code_graph c.args.c).shape.k_b) = c.row_sums.ensures ∙ ap (λ s. sums_of c.args.c c.args.info.now (3 * s.k_b)) (shape_is) in
     let code = c.args.c in
     let info = c.args.info.now in
@@ -92,5 +92,5 @@ shape_of-parity c = c.put_rows.auto.parity ∙ c.row_sums.auto.sums
 pub returns : goal.returns
 unfolding code_graph graph_of
 returns c =
-    let shape_is : c.shape_of-s.result ≡ (code_graph c.args.c).shape = c.shape_of-s.ensures in
+    let shape_is : c.shape_of-s.result ≡ (code_graph c.args.c).shape = c.shape_of-s.ensures.value in
     c.put_rows.ensures ∙ ap (λ s. stairs c.args.c c.args.info.now s.m_b) shape_is

@@ -1,7 +1,7 @@
 -- `tables::graph_of` meets its contract. The invariant: the first i entries of both lists are the graph's. Assumes nothing.
 use mathlib.Core.Path.{◌≡◌, ◌∙◌}
 use mathlib.Core.List.{List}
-use Prim.Native.Nat.{ℕ, ◌+◌, ◌*◌, ◌-◌, ◌<◌, ◌≤◌}
+use Prim.Native.Nat.{ℕ, ◌+◌, ◌*◌, ◌<◌, ◌≤◌}
 use native.Mathlib.Omega.{arith}
 use borrow.Author.Tests.{lt-ltb, le-ltb}
 use lib.ListN.{length, get_or, set, replicate, get_or-replicate}
@@ -28,7 +28,4 @@ module _ (table : List ℕ) (g : ℕ) where
       (λ s k b. get_or-replicate 153 s 0 0 b ∙ (rw (le-ltb s (3 * info_columns g) (omega arith))))
 
 abbrev pub invariant-loop-i : goal.invariant-loop-i
-invariant-loop-i l = (l.i ≤ l.n) × Copied row_list l.g l.i l.initial.rows l.rows × Copied shift_list l.g l.i l.initial.shifts l.shifts
-
-abbrev pub decreases-loop-i : goal.decreases-loop-i
-decreases-loop-i l = l.n - l.i
+invariant-loop-i l = Copied row_list l.g l.i l.initial.rows l.rows × Copied shift_list l.g l.i l.initial.shifts l.shifts

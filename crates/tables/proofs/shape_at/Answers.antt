@@ -28,4 +28,12 @@ overflow_sub-result c = omega (arith, info c.args.g c.requires, (sizes c.args.g 
 
 pub returns : goal.returns
 unfolding base_columns base_rows shape_of shape_with
-returns c = ap (shape_with c.args.g) (info c.args.g c.requires)
+returns c =
+    let e = info c.args.g c.requires in
+    let z = sizes c.args.g c.requires in
+    record {
+      value = ap (shape_with c.args.g) e;
+      columns = e;
+      bounds =
+          (omega (arith, e, z.info), omega (arith, e, z.info_most), omega (arith, e, z.rows, z.columns), omega (arith, e, z.rows_most, z.columns), omega (arith, e, z.columns), omega (arith, z.columns_most));
+    }

@@ -3,16 +3,16 @@ use mathlib.Core.Path.{refl}
 use Rattle.boundary.proofs.Fronts.{none_in}
 use Rattle.boundary.proofs.answers.filled.Goals as goal
 
-pub returns-in-Done : goal.returns-in-Done
-returns-in-Done c =
+pub returns-in-Ok : goal.returns-in-Ok
+returns-in-Ok c =
     record {
-      value = rw c.in-Done.is refl;
-      answer_after = rw c.in-Done.is (none_in _);
+      value = rw c.in-Ok.is refl;
+      answer_after = rw c.in-Ok.is (none_in _);
     }
 
-pub returns-in-Refused : goal.returns-in-Refused
-returns-in-Refused c =
+pub returns-in-Err : goal.returns-in-Err
+returns-in-Err c =
     record {
-      value = rw c.in-Refused.is (c.refuse.ensures.value);
-      answer_after = rw c.in-Refused.is (c.refuse.ensures.answer_after);
+      value = rw c.in-Err.is (c.refuse.ensures.value);
+      answer_after = rw c.in-Err.is (c.refuse.ensures.answer_after);
     }

@@ -5,17 +5,17 @@ use Rattle.boundary.proofs.Fronts.{three_in}
 use Rattle.boundary.specs.Answers.{result_numbers}
 use Rattle.boundary.proofs.answers.result.Goals as goal
 
-pub returns-in-Result : goal.returns-in-Result
+pub returns-in-Ok : goal.returns-in-Ok
 unfolding result_numbers
-returns-in-Result c =
+returns-in-Ok c =
     record {
-      value = rw c.in-Result.is refl;
-      answer_after = rw (c.in-Result.is, c.bit_of.ensures, c.bit_of-in-Result.ensures) (three_in _ _ _ _ (omega (arith, c.requires)));
+      value = rw c.in-Ok.is refl;
+      answer_after = rw (c.in-Ok.is, c.bit_of.ensures, c.bit_of-in-Ok.ensures) (three_in _ _ _ _ (omega (arith, c.requires)));
     }
 
-pub returns-in-Refused : goal.returns-in-Refused
-returns-in-Refused c =
+pub returns-in-Err : goal.returns-in-Err
+returns-in-Err c =
     record {
-      value = rw c.in-Refused.is (c.refuse.ensures.value);
-      answer_after = rw c.in-Refused.is (c.refuse.ensures.answer_after);
+      value = rw c.in-Err.is (c.refuse.ensures.value);
+      answer_after = rw c.in-Err.is (c.refuse.ensures.answer_after);
     }

@@ -1,4 +1,5 @@
 -- `check_members` meets its contract: the members are counted, and then written. Assumes nothing.
+use Rattle.std.specs.Prelude.{Ok}
 use mathlib.Core.Path.{◌≡◌, sym, ap, ◌∙◌, subst}
 use mathlib.Core.Bool.{true, false}
 use mathlib.Core.List.{List, ◌++◌}
@@ -8,7 +9,7 @@ use borrow.Author.Tests.{lt-ltb, le-ltb}
 use lib.ListN.{length, drop}
 use Rattle.laws.specs.Range.{count, collect}
 use Rattle.laws.proofs.Collect.{length_collect}
-use Rattle.refusals.specs.Told.{Told, gave, refused}
+use Rattle.refusals.specs.Outcome.{Outcome, refused}
 use Rattle.matrix.specs.Edges.{edges}
 use Rattle.matrix.specs.Checks.{members_of}
 use Rattle.base_edges.specs.Edge.{edges_in}
@@ -22,7 +23,7 @@ use Rattle.coder.proofs.members.check_members.Goals as goal
 
 -- the cases of the answer
 module _ (c : Code) (check : ℕ) (out : List ℕ) where
-  abbrev Answers : Told ℕ → List ℕ → Type 0
+  abbrev Answers : Outcome ℕ → List ℕ → Type 0
   Answers told out' = (told ≡ listed c check (length out)) × (out' ≡ list_written c check out)
 
   kept : {a p q : ℕ} → refused a p q ≡ listed c check (length out) → Answers (refused a p q) out
@@ -51,12 +52,12 @@ module _ (c : Code) (check : ℕ) (out : List ℕ) where
       unfolding listed if_made
       no_room l = kept (rw (m, ← all, lt-ltb check checks h, count-is, lt-ltb (length out) n l))
 
-      listed-whole : n ≤ length out → gave n ≡ listed c check (length out)
+      listed-whole : n ≤ length out → Ok n ≡ listed c check (length out)
       unfolding listed if_made
       listed-whole l = rw (m, ← all, lt-ltb check checks h, count-is, le-ltb (length out) n l)
 
       written : {out' : List ℕ} → n ≤ length out
-          → out' ≡ collect (is_member c check) (member_place c check) e ++ drop (count (is_member c check) e) out → Answers (gave n) out'
+          → out' ≡ collect (is_member c check) (member_place c check) e ++ drop (count (is_member c check) e) out → Answers (Ok n) out'
       unfolding list_written
       written l w = let k = listed-whole l in (k, rw (← k, count-is, members-are, w, ← found))
 

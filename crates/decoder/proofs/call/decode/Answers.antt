@@ -14,13 +14,13 @@ returns-in_default c =
 
 pub decode_by-requires : goal.decode_by-requires
 decode_by-requires c =
-    given_made c.args.rate c.args.n_tx c.in-Made.c
-    (chosen_code c.args.rate c.args.n_tx c.args.rx.now c.args.limit c.args.work.now c.args.out.now c.new-choice.result c.in-Made.c c.in-Made.is c.new-choice.ensures)
+    given_made c.args.rate c.args.n_tx c.in-Ok.c
+    (chosen_code c.args.rate c.args.n_tx c.args.rx.now c.args.limit c.args.work.now c.args.out.now c.new-choice.result c.in-Ok.c c.in-Ok.is c.new-choice.ensures)
 
 pub returns : goal.returns
 returns c =
-    let code = c.in-Made.c in
-    let r = by_code c.args.rate c.args.n_tx c.args.rx.now c.args.limit c.args.work.now c.args.out.now code (chosen_code c.args.rate c.args.n_tx c.args.rx.now c.args.limit c.args.work.now c.args.out.now c.new-choice.result code c.in-Made.is c.new-choice.ensures) in record {
+    let code = c.in-Ok.c in
+    let r = by_code c.args.rate c.args.n_tx c.args.rx.now c.args.limit c.args.work.now c.args.out.now code (chosen_code c.args.rate c.args.n_tx c.args.rx.now c.args.limit c.args.work.now c.args.out.now c.new-choice.result code c.in-Ok.is c.new-choice.ensures) in record {
       result_value = c.decode_by.ensures.result_value ∙ r.0;
       work_after = c.decode_by.ensures.work_after ∙ r.1;
       out_after = c.decode_by.ensures.out_after ∙ r.2;

@@ -1,4 +1,5 @@
 -- `decode_by` meets its contract: each way out by the tests before it. Assumes nothing.
+use Rattle.std.specs.Prelude.{Ok}
 use mathlib.Core.Path.{sym, ap, ◌∙◌}
 use native.Mathlib.Omega.{arith}
 use lib.ListN.{length}
@@ -6,7 +7,6 @@ use Rattle.refusals.proofs.Lengths.{length_passed, length_refused}
 use Rattle.channel.proofs.Started.{ready}
 use Rattle.word.specs.Word.{word_of}
 use Rattle.decoder.specs.Calls.{decoded_by, memory_by, written_by}
-use Rattle.refusals.specs.Told.{gave}
 use Rattle.decoder.proofs.Runs.{telling, unbroken_result}
 use Rattle.decoder.proofs.Refused.{work_passed, work_refused}
 use Rattle.sizes.proofs.Lent.{ready_still}
@@ -62,7 +62,7 @@ returns c =
     ∙ length_passed _ 9 (length c.args.out.now) c.args.c.n_tx c.if-out-n_tx.false
     ∙ work_passed _ c.args.c (length c.args.work.now) (omega (arith, c.work_needed-needed.ensures, c.if-work-needed.false)) in
     let r = c.decode_unbroken-r.result in record {
-      result_value = ap gave (ap (telling r) c.read-clean.ensures.value ∙ unbroken_result c.args.c _ r _ c.decode_unbroken-r.ensures.value c.decode_unbroken-r.ensures.work_after) ∙ sym e;
+      result_value = ap Ok (ap (telling r) c.read-clean.ensures.value ∙ unbroken_result c.args.c _ r _ c.decode_unbroken-r.ensures.value c.decode_unbroken-r.ensures.work_after) ∙ sym e;
       work_after = rw e c.decode_unbroken-r.ensures.work_after;
       out_after = rw e (c.read-clean.ensures.out_after ∙ ap (word_of c.args.c) c.decode_unbroken-r.ensures.work_after);
     }

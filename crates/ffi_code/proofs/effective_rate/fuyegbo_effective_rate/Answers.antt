@@ -3,7 +3,7 @@ use mathlib.Core.Path.{sym, ap, ◌∙◌}
 use Rattle.boundary.proofs.Answered.{no_answer, has_answer, left_answer, no_code, has_code, number_of, kept, pair_of, number_as, after_as, answer_as}
 use mathlib.Core.List.{[], ◌∷◌}
 use lib.ListN.{length}
-use Rattle.refusals.specs.Told.{after}
+use Rattle.refusals.specs.Outcome.{after}
 use Rattle.ldpc.specs.Getters.{rate_told}
 use Rattle.boundary.specs.Answers.{put_told}
 use Rattle.boundary.specs.Calls.{rate_at}

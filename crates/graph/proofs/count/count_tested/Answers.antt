@@ -1,9 +1,9 @@
 -- `count_tested` meets its contract: each way out by the tests before it. Assumes nothing.
+use Rattle.std.specs.Prelude.{Ok}
 use mathlib.Core.Path.{◌≡◌, sym, ap, ◌∙◌}
 use Prim.Native.Nat.{◌*◌}
 use native.Mathlib.Omega.{arith}
 use lib.ListN.{length}
-use Rattle.refusals.specs.Told.{gave}
 use Rattle.refusals.proofs.Lengths.{length_passed, length_refused}
 use Rattle.cycles.proofs.Once.{once}
 use Rattle.graph.specs.Calls.{cycles_counted}
@@ -41,5 +41,5 @@ returns c =
     let rows = c.args.rows.now in
     let passed = rw c.first_fault-fault.ensures at c.if-fault-rows.false in
     let long : length rows ≡ 3 * c.args.k_b = c.if-rows-n.false in
-    ap gave (c.count_cycles.ensures ∙ once _ _ _ _ _ long (λ p l. none_faulty _ _ (omega (arith, passed)) p (omega (arith, long))))
+    ap Ok (c.count_cycles.ensures ∙ once _ _ _ _ _ long (λ p l. none_faulty _ _ (omega (arith, passed)) p (omega (arith, long))))
     ∙ sym (length_passed _ 5 _ _ long ∙ length_passed _ 5 _ _ c.if-shifts-n.false ∙ sound_passed _ _ _ (omega (arith, passed)))

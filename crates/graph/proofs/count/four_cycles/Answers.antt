@@ -5,12 +5,12 @@ use Rattle.graph.proofs.Tested.{handed, passed, gave_done}
 use Rattle.graph.proofs.count.four_cycles.Goals as goal
 
 pub count_tested-requires : goal.count_tested-requires
-count_tested-requires c = gave_done c.lifted.ensures c.in-Done.is
+count_tested-requires c = gave_done c.lifted.ensures c.in-Ok.is
 
-pub returns-in-Refused : goal.returns-in-Refused
+pub returns-in-Err : goal.returns-in-Err
 unfolding cycles_told
-returns-in-Refused c = handed _ c.lifted.ensures c.in-Refused.is
+returns-in-Err c = handed _ c.lifted.ensures c.in-Err.is
 
-pub returns-in-Done : goal.returns-in-Done
+pub returns-in-Ok : goal.returns-in-Ok
 unfolding cycles_told
-returns-in-Done c = c.count_tested.ensures ∙ sym (passed _ c.lifted.ensures c.in-Done.is)
+returns-in-Ok c = c.count_tested.ensures ∙ sym (passed _ c.lifted.ensures c.in-Ok.is)

@@ -1,5 +1,5 @@
 -- `refused_read` meets its contract. Assumes nothing.
 use Rattle.soak.proofs.calls.refused_read.Goals as goal
 
-pub returns-in-Result : goal.returns-in-Result
-returns-in-Result c = rw (c.refusal.ensures, c.in-Result.is)
+pub returns-in-Ok : goal.returns-in-Ok
+returns-in-Ok c = rw (c.refusal.ensures, c.in-Ok.is)

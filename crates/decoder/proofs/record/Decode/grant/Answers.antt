@@ -1,10 +1,10 @@
 -- `Decode::grant` meets its contract: each way out by the tests before it. Assumes nothing.
+use Rattle.std.specs.Prelude.{Ok}
 use mathlib.Core.Path.{◌≡◌, sym, ap, ◌∙◌}
 use mathlib.Core.Bool.{true}
 use Prim.Native.Nat.{◌+◌}
 use native.Mathlib.Omega.{arith}
 use lib.ListN.{length}
-use Rattle.refusals.specs.Told.{gave}
 use Rattle.decoder.proofs.Refused.{work_passed, work_refused, sum_passed, sum_refused}
 use Rattle.ldpc.proofs.Refused.{made_passed, made_refused}
 use Rattle.ldpc.specs.Choice.{made}
@@ -67,6 +67,6 @@ returns c =
     let e = made_passed _ c.args.self.code made-is
     ∙ work_passed _ c.args.self.code (length c.args.work.now) (omega (arith, c.work_needed-needed.ensures, c.if-work-needed.false))
     ∙ sum_passed _ (c.args.self.iterations + c.args.g) (omega (arith, c.if-all-gt65535.false)) in record {
-      result_value = ap gave (granted c.args.self c.args.g c.args.work.now _ _ c.go_on-r.ensures) ∙ sym e;
+      result_value = ap Ok (granted c.args.self c.args.g c.args.work.now _ _ c.go_on-r.ensures) ∙ sym e;
       work_after = rw e (granted_memory_lem c.args.self c.args.g c.args.work.now _ _ c.go_on-r.ensures);
     }

@@ -1,4 +1,5 @@
 -- `Decode::read` meets its contract: each way out by the tests before it. Assumes nothing.
+use Rattle.std.specs.Prelude.{Ok}
 use mathlib.Core.Path.{◌≡◌, sym, ap, ◌∙◌}
 use mathlib.Core.Bool.{true}
 use native.Mathlib.Omega.{arith}
@@ -9,7 +10,6 @@ use Rattle.refusals.proofs.Lengths.{length_passed, length_refused}
 use Rattle.ldpc.proofs.Refused.{made_passed, made_refused}
 use Rattle.decoder.specs.Calls.{read_told, read_written}
 use Rattle.decoder.proofs.Refused.{work_passed, work_refused}
-use Rattle.refusals.specs.Told.{gave}
 use Rattle.decoder.proofs.Runs.{standing, telling, read_result}
 use Rattle.decoder.proofs.record.Decode.read.Goals as goal
 
@@ -68,6 +68,6 @@ returns c =
     ∙ length_passed _ 9 (length c.args.out.now) c.args.self.code.n_tx c.if-out-n_tx.false
     ∙ work_passed _ c.args.self.code (length c.args.work.now) (omega (arith, c.work_needed-needed.ensures, c.if-work-needed.false)) in
     let self = c.args.self in record {
-      result_value = ap gave (ap (telling (standing self)) c.read.ensures.value ∙ read_result self c.args.work.now) ∙ sym e;
+      result_value = ap Ok (ap (telling (standing self)) c.read.ensures.value ∙ read_result self c.args.work.now) ∙ sym e;
       out_after = rw e c.read.ensures.out_after;
     }
