@@ -6,15 +6,16 @@ use ldpc::Code;
 use readings::Bits;
 
 // What is not so is printed after "not".
-fn unless(so: bool) -> &'static str {
+fn not_unless(so: bool) -> &'static str {
     if so { "" } else { "not " }
 }
 
 fn print_result(rt: &impl Print, row: &str, c: Code, r: DecodeResult, word: &[u8]) -> Result<()> {
-    let (converged, clean) = (unless(r.converged), unless(r.clean));
     let unsatisfied = coder::unsatisfied(c, word)?;
-    print!(rt; "{row}: {}, iterations {}, ", Bits(word), r.iterations)?;
-    println!(rt; "{converged}converged, {clean}clean, unsatisfied {unsatisfied}")?;
+    print!(rt; "{row}: {}, iterations {}", Bits(word), r.iterations)?;
+    print!(rt; ", {}converged", not_unless(r.converged))?;
+    print!(rt; ", {}clean", not_unless(r.clean))?;
+    println!(rt; ", unsatisfied {unsatisfied}")?;
     Ok(())
 }
 

@@ -35,14 +35,8 @@ const ENCODINGS: [(usize, usize, &[u8]); 3] = [
 ];
 
 fn print_choices(rt: &impl Print, rows: &[(&str, usize, usize)]) -> Result<()> {
-    for (star, rate, n_tx) in rows {
-        println!(rt;
-            "{star}{}",
-            Choice {
-                rate: *rate,
-                n_tx: *n_tx
-            }
-        )?;
+    for &(star, rate, n_tx) in rows {
+        println!(rt; "{star}{}", Choice { rate, n_tx })?;
     }
     Ok(())
 }

@@ -34,7 +34,7 @@ impl Computed {
     }
 
     // The row at place p. It is below m_b, so `as` keeps it whole, and `try_from` would have an error that cannot come.
-    #[tactic(auto, using(crate::proofs::Drawn::some_row_lt, crate::proofs::Drawn::row_lt), unfolding(crate::specs::Inputs::row_at))]
+    #[tactic(auto, using(crate::proofs::Drawn::less), unfolding(crate::specs::Inputs::row_at, crate::specs::Inputs::some_row))]
     fn row_at(self, p: usize) -> u8
         requires { p < 183 }
         ensures { result ≡ row_at self.m_b self.seed p }

@@ -1,5 +1,5 @@
 -- `fill_columns` meets its contract. The invariant: the places below p are written. Assumes nothing.
-use Rattle.std.proofs.Common.{ℕ, ◌≡◌, ◌<◌, ◌≤◌, length, get_or}
+use Rattle.std.proofs.Common.{ℕ, ◌≡◌, ◌<◌, length, get_or}
 use Rattle.designs.specs.Inputs.{row_at, shift_at}
 use Rattle.designs.proofs.inputs.Computed.fill_columns.Given as goal
 
