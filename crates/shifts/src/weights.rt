@@ -2,11 +2,34 @@
 // d + 1022.
 ghost use Rattle.std.specs.Prelude.{◌≡◌, ℕ, ◌+◌, ◌<◌, length, replicate, if◌then◌else◌, slice_index};
 ghost use Rattle.laws.specs.Columns.{congruent};
+ghost use Rattle.shifts.specs.Shifts.{weight};
 ghost use Rattle.shifts.specs.Biases.{Weights};
 
 const TEST_Z: [u16; 17] = [
     2, 3, 4, 5, 6, 7, 8, 12, 16, 24, 32, 48, 64, 96, 128, 256, 324,
 ];
+
+#[derive(Drop)]
+pub struct WeightTable {
+    weights: [u16; 2045],
+    ghost filled: { Weights weights },
+}
+
+impl WeightTable {
+    pub fn new() -> WeightTable {
+        let mut weights: [u16; 2045] = [0; 2045];
+        fill_weights(&mut weights);
+        WeightTable { weights }
+    }
+
+    // What the d at a place costs.
+    pub fn weight(&self, i: usize) -> usize
+        requires { i < 2045 }
+        ensures { result ≡ weight i 1022 }
+    {
+        usize::from(self.weights[i])
+    }
+}
 
 // Adds 1 to each d that the lift z divides.
 fn add_lift(z: usize, weights: &mut [u16])
@@ -21,15 +44,12 @@ fn add_lift(z: usize, weights: &mut [u16])
 }
 
 // Writes the table over zeros.
-pub fn fill_weights(weights: &mut [u16])
+fn fill_weights(weights: &mut [u16])
     requires { weights.old ≡ replicate 2045 0 }
     ensures { Weights weights.new }
 {
-    let lifts = &TEST_Z;
-    let mut t = 0;
-    while t < 17 {
-        add_lift(numbers::wide16(lifts[t]), weights);
-        t += 1;
+    for z in &TEST_Z {
+        add_lift(usize::from(*z), weights);
     }
     weights[1022] = 1000;
 }
