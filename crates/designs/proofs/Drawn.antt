@@ -2,7 +2,7 @@
 use Rattle.std.proofs.Common.{◌≡◌, ℕ, ◌+◌, ◌-◌, ◌*◌, ◌%◌, ◌<◌, ◌≤◌, Ok, mul-le-mul, mod-lt, arith}
 use Rattle.std.proofs.lemmas.Grind.{common_steps}
 use Rattle.laws.specs.Columns.{information_columns}
-use Rattle.graph.specs.Calls.{within_told, rated_told, columns_told}
+use Rattle.graph.specs.Calls.{columns_told}
 
 -- the square of a place
 pub square : (p : ℕ) → p < 200 → p * p ≤ 39601
@@ -21,5 +21,5 @@ sizes i =
 
 -- the most information columns
 pub few : (n_b percent k : ℕ) → columns_told n_b percent ≡ Ok k → k ≤ 61
-unfolding columns_told rated_told within_told information_columns
+unfolding columns_told information_columns
 few n_b percent k e = grind (arith, common_steps, e)
