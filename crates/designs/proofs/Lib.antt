@@ -1,2 +1,2 @@
--- The computed columns and the seed. Assumes nothing.
+-- The computed columns. Assumes nothing.
 pub mod Drawn

@@ -1,11 +1,11 @@
 -- The seed and the columns that the program computes. The oracle's driver computes the same. Assumes nothing.
 use Rattle.std.specs.Prelude.{ℕ, ◌+◌, ◌-◌, ◌*◌, ◌/◌, ◌%◌, ◌^◌, cond, List, ◌==◌}
-use Rattle.laws.specs.Range.{folded}
+use Rattle.std.specs.List.{fold}
 use Rattle.shifts.specs.Generator.{next_state}
 
 -- a seed from the bytes of a text: each is added to the state, which then steps
 unfoldable pub seed_of : List ℕ → ℕ
-seed_of text = folded (λ s x. next_state ((s + x) % 2 ^ 64)) 0 text
+seed_of text = fold (λ s x. next_state ((s + x) % 2 ^ 64)) 0 text
 
 -- the rows of a column: some row, one that is neither it nor the one before it, and the one before it
 unfoldable pub some_row : ℕ → ℕ → ℕ → ℕ

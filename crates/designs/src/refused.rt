@@ -1,115 +1,93 @@
-// Calls that 01 refuses, with the lengths that they are lent, and the refusal.
-ghost use Rattle.std.specs.Prelude.{◌≤◌};
-
-use crate::print_count;
-use std::io;
+// Calls that are refused, with the lengths that they are lent, and the refusal.
+use anyhow::Result;
+use refusals::Refusal;
+use std::fmt;
 
 // The rows of two columns of a graph with three base rows; the last is repeated.
 const ROWS: [u8; 7] = [0, 1, 2, 1, 2, 1, 0];
 
-fn print_asked(rt: &impl Print, name: &[u8], n_b: usize, second: usize) -> io::Result<()> {
-    text::print_bytes(rt, name)?;
-    text::print_number(rt, n_b, b' ')?;
-    text::print_number(rt, second, b' ')
-}
+// n_b and the percent.
+const COLUMNS: [(usize, usize); 3] = [(3, 0), (65, 101), (64, 101)];
 
-fn print_lengths(rt: &impl Print, rows: usize, shifts: usize) -> io::Result<()> {
-    text::print_bytes(rt, b"of ")?;
-    text::print_number(rt, rows, b' ')?;
-    text::print_bytes(rt, b"and ")?;
-    text::print_number(rt, shifts, b':')
-}
+// n_b, k_b, and the length of the rows.
+const GROWTHS: [(usize, usize, usize); 4] = [(3, 1, 3), (5, 0, 3), (5, 3, 6), (5, 2, 7)];
 
-fn print_filled(rt: &impl Print, filled: Result<(), Refusal>) -> io::Result<()> {
-    match filled {
-        Ok(()) => text::print_bytes(rt, b" done\n"),
-        Err(r) => {
-            text::print_bytes(rt, b" ")?;
-            text::print_refusal(rt, r, b'\n')
+// The percent, and the lengths of the rows and the shifts.
+const BUILDS: [(usize, usize, usize); 3] = [(101, 0, 0), (50, 7, 7), (50, 6, 7)];
+
+// What a call answers, or the refusal.
+#[derive(Clone, Copy)]
+struct Answer<T>(Result<T, Refusal>);
+
+impl<T: fmt::Display> fmt::Display for Answer<T> {
+    fn fmt<W: fmt::Write>(&self, f: &mut fmt::Formatter<W>) -> fmt::Result {
+        match &self.0 {
+            Ok(x) => write!(f, "{x}"),
+            Err(refusal) => write!(f, "{refusal}"),
         }
     }
 }
 
-fn print_columns(rt: &impl Print, n_b: usize, percent: usize) -> io::Result<()> {
-    text::print_bytes(rt, b"columns ")?;
-    text::print_number(rt, n_b, b' ')?;
-    text::print_number(rt, percent, b':')?;
-    text::print_bytes(rt, b" ")?;
-    print_count(rt, graph::information_columns(n_b, percent), b'\n')
+fn print_columns(rt: &impl Print) -> Result<()> {
+    for (n_b, percent) in COLUMNS {
+        let answer = Answer(graph::information_columns(n_b, percent));
+        println!(rt; "columns {n_b} {percent}: {answer}")?;
+    }
+    Ok(())
 }
 
-fn print_peg(rt: &impl Print, n_b: usize, k_b: usize, room: usize) -> io::Result<()>
-    requires { room ≤ 7 }
-{
-    let mut rows: [u8; 7] = [0; 7];
-    print_asked(rt, b"peg ", n_b, k_b)?;
-    text::print_bytes(rt, b"of ")?;
-    text::print_number(rt, room, b':')?;
-    print_filled(rt, graph::peg(n_b, k_b, &mut rows[..room]))
+fn print_growths(rt: &(impl Print + AllocGlobal)) -> Result<()> {
+    for (n_b, k_b, room) in GROWTHS {
+        let mut rows = vec![in rt.alloc(); 0u8; room]?;
+        let answer = Answer(graph::peg(n_b, k_b, &mut rows).map(|()| "done"));
+        println!(rt; "peg {n_b} {k_b} of {room}: {answer}")?;
+    }
+    Ok(())
 }
 
-fn print_shifts(rt: &impl Print, n: usize, room: usize) -> io::Result<()>
-    requires { (n ≤ 7) × (room ≤ 7) }
-{
-    let rows = ROWS;
-    let mut shifts: [u16; 7] = [0; 7];
-    print_asked(rt, b"shifts ", 5, 2)?;
-    print_lengths(rt, n, room)?;
-    print_filled(
-        rt,
-        graph::assign_shifts(5, 2, &rows[..n], 1, &mut shifts[..room]),
-    )
+fn print_shifts(rt: &(impl Print + AllocGlobal)) -> Result<()> {
+    for (rows, room) in [(&ROWS[..5], 5), (&ROWS[..6], 5), (&ROWS[..6], 6)] {
+        let mut shifts = vec![in rt.alloc(); 0u16; room]?;
+        let answer = Answer(graph::assign_shifts(5, 2, rows, 1, &mut shifts).map(|()| "done"));
+        println!(rt; "shifts 5 2 of {} and {room}: {answer}", rows.len())?;
+    }
+    Ok(())
 }
 
-fn print_build(rt: &impl Print, percent: usize, n: usize, room: usize) -> io::Result<()>
-    requires { (n ≤ 7) × (room ≤ 7) }
-{
-    let mut rows: [u8; 7] = [0; 7];
-    let mut shifts: [u16; 7] = [0; 7];
-    print_asked(rt, b"build ", 5, percent)?;
-    print_lengths(rt, n, room)?;
-    print_filled(
-        rt,
-        graph::build(5, percent, 1, &mut rows[..n], &mut shifts[..room]),
-    )
+fn print_builds(rt: &(impl Print + AllocGlobal)) -> Result<()> {
+    for (percent, n, room) in BUILDS {
+        let mut rows = vec![in rt.alloc(); 0u8; n]?;
+        let mut shifts = vec![in rt.alloc(); 0u16; room]?;
+        let answer = Answer(graph::build(5, percent, 1, &mut rows, &mut shifts).map(|()| "done"));
+        println!(rt; "build 5 {percent} of {n} and {room}: {answer}")?;
+    }
+    Ok(())
 }
 
-fn print_cycles(rt: &impl Print, n: usize, m: usize, z: usize) -> io::Result<()>
-    requires { (n ≤ 7) × (m ≤ 7) }
-{
-    let rows = ROWS;
-    let shifts: [u16; 7] = [0; 7];
-    print_asked(rt, b"cycles ", 5, 2)?;
-    text::print_bytes(rt, b"of ")?;
-    text::print_number(rt, n, b' ')?;
-    text::print_bytes(rt, b"and ")?;
-    text::print_number(rt, m, b' ')?;
-    text::print_bytes(rt, b"at ")?;
-    text::print_number(rt, z, b':')?;
-    text::print_bytes(rt, b" ")?;
-    print_count(
-        rt,
-        graph::four_cycles(5, 2, &rows[..n], &shifts[..m], z),
-        b'\n',
-    )
+// The shifts are all 0.
+fn print_cycles(rt: &impl Print) -> Result<()> {
+    let (five, six) = (&ROWS[..5], &ROWS[..6]);
+    let shifts = [0; 6];
+    for (rows, shifts, z) in [
+        (five, &shifts[..5], 0),
+        (six, &shifts[..5], 65536),
+        (six, &shifts[..5], 1),
+        (six, &shifts, 1),
+    ] {
+        let answer = Answer(graph::four_cycles(5, 2, rows, shifts, z));
+        println!(rt;
+            "cycles 5 2 of {} and {} at {z}: {answer}",
+            rows.len(),
+            shifts.len()
+        )?;
+    }
+    Ok(())
 }
 
-pub fn print_refusals(rt: &impl Print) -> io::Result<()> {
-    print_columns(rt, 3, 0)?;
-    print_columns(rt, 65, 101)?;
-    print_columns(rt, 64, 101)?;
-    print_peg(rt, 3, 1, 3)?;
-    print_peg(rt, 5, 0, 3)?;
-    print_peg(rt, 5, 3, 6)?;
-    print_peg(rt, 5, 2, 7)?;
-    print_shifts(rt, 5, 5)?;
-    print_shifts(rt, 6, 5)?;
-    print_shifts(rt, 6, 6)?;
-    print_build(rt, 101, 0, 0)?;
-    print_build(rt, 50, 7, 7)?;
-    print_build(rt, 50, 6, 7)?;
-    print_cycles(rt, 5, 5, 0)?;
-    print_cycles(rt, 6, 5, 65536)?;
-    print_cycles(rt, 6, 5, 1)?;
-    print_cycles(rt, 6, 6, 1)
+pub fn print_refusals(rt: &(impl Print + AllocGlobal)) -> Result<()> {
+    print_columns(rt)?;
+    print_growths(rt)?;
+    print_shifts(rt)?;
+    print_builds(rt)?;
+    print_cycles(rt)
 }

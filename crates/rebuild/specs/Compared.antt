@@ -2,7 +2,7 @@
 use Rattle.std.specs.Prelude.{Bool, not, ◌||◌, List, ℕ, ◌+◌, ◌*◌, eqb, get_or}
 use Rattle.laws.specs.Range.{some, count}
 
--- 01, "Table seeds": hexadecimal 5EED0000 + 977 * rate index + n_b
+-- the seed of the graph of a rate: hexadecimal 5EED0000 + 977 * rate index + n_b
 unfoldable pub table_seed : ℕ → ℕ → ℕ
 table_seed rate n_b = 1592590336 + 977 * rate + n_b
 

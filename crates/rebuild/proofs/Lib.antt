@@ -1,0 +1,2 @@
+-- When two columns differ. Assumes nothing.
+pub mod Apart
