@@ -74,3 +74,9 @@ module _ (c : Code) (b : ℕ) (h : b < edges (code_graph c)) where
         column_lt = (code_simple c).column_lt b h;
         shift_lt = shift_lt c b;
       })
+
+-- and where it lies
+pub edge_within : (c : Code) (b : ℕ) → b < edges (code_graph c)
+    → let e = edge_of (code_graph c) b in (e.row < (code_graph c).shape.m_b) × (e.column < (code_graph c).shape.n_b) × (e.shift < 512)
+unfolding edge_of
+edge_within c b h = ((code_simple c).row_lt b h, (code_simple c).column_lt b h, shift_lt c b)
