@@ -1,5 +1,5 @@
 // A valid code beside its graph, for the calls that go edge by edge.
-ghost use Rattle.std.specs.Prelude.{◌≡◌, ◌+◌, ◌*◌, ◌<◌, ◌≤◌};
+ghost use Rattle.std.specs.Prelude.{◌≡◌, ◌+◌, ◌*◌, ◌/◌, ◌<◌, ◌≤◌};
 ghost use Rattle.tables.specs.Graph.{IsTableShape};
 ghost use Rattle.matrix.specs.Edges.{edges};
 ghost use Rattle.base_edges.specs.Edge.{edge_of};
@@ -40,5 +40,17 @@ impl CodeGraph {
         ensures shift { result.shift < 512 }
     {
         base_edges::edge_at(&self.graph, b)
+    }
+
+    // The same of a base edge that is known to stand in an information column.
+    #[tactic(auto, using(crate::proofs::CodeEdges::edge_within, crate::proofs::CodeEdges::info_edge_column), unfolding(matrix::specs::Edges::edges))]
+    pub fn info_edge(&self, b: usize) -> Edge
+        requires { b < 3 * self.now.graph.shape.k_b }
+        ensures value { result ≡ edge_of self.now.graph b }
+        ensures row { result.row < self.now.graph.shape.m_b }
+        ensures column { result.column ≡ b / 3 }
+        ensures shift { result.shift < 512 }
+    {
+        base_edges::info_edge(&self.graph, b)
     }
 }
