@@ -1,10 +1,15 @@
 -- Bits as bytes, and their sum. Assumes nothing.
 use mathlib.Core.Path.{◌≡◌, refl}
 use mathlib.Core.Bool.{Bool, true, false, xor}
-use Prim.Native.Nat.{◌≤◌}
+use mathlib.Core.List.{List}
+use Prim.Native.Nat.{ℕ, ◌+◌, ◌<◌, ◌≤◌}
 use native.Mathlib.Omega.{arith}
+use native.Mathlib.Decide.{dec_lt}
+use lib.ListN.{length, get_or, take, drop, get_or-eq_default}
+use lib.Seq.{get_or-take, get_or-drop}
+use Rattle.std.proofs.lemmas.List.{length-take}
 use Rattle.matrix.specs.Encoding.{bit}
-use Rattle.bits.specs.Sums.{differing}
+use Rattle.bits.specs.Sums.{differing, Bits}
 
 pub differing_bits : (a b : Bool) → differing (bit a) (bit b) ≡ bit (xor a b)
 unfolding xor
@@ -16,3 +21,18 @@ differing_bits true true = refl
 pub bit_most : (b : Bool) → bit b ≤ 1
 bit_most false = omega arith
 bit_most true = omega arith
+
+-- every byte of bits, and 0 past their end
+pub bits_below : (l : List ℕ) (i : ℕ) → Bits l → get_or l i 0 ≤ 1
+bits_below l i h = by (dec_lt i (length l))
+  where
+    by : Dec (i < length l) → get_or l i 0 ≤ 1
+    by (yes k) = h i k
+    by (no k) = rw (get_or-eq_default l 0 {n = i} (omega arith)) (omega arith)
+
+-- parts of a word of bits
+pub bits_before : (n : ℕ) (l : List ℕ) → Bits l → Bits (take n l)
+bits_before n l h i k = rw (get_or-take n l i 0 (omega (arith, length-take n l))) (bits_below l i h)
+
+pub bits_behind : (n : ℕ) (l : List ℕ) → Bits l → Bits (drop n l)
+bits_behind n l h i k = rw (get_or-drop n l i 0) (bits_below l (n + i) h)

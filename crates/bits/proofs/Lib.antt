@@ -3,3 +3,4 @@ pub mod Bytes
 pub mod Above
 pub mod Row
 pub mod Turned
+pub mod Put
