@@ -21,7 +21,7 @@ fn count_unmet(g: &CodeGraph, word: Bits<'_>, room: &mut [u8]) -> usize
 
 // The same, in memory of its own, for at most N checks.
 fn unmet_in<const N: usize>(g: &CodeGraph, word: Bits<'_>) -> usize
-    requires { checks_of g.now.code.code ≤ N }
+    requires { (N ≤ 12636) × (checks_of g.now.code.code ≤ N) }
     ensures { result ≡ unsatisfied_of g.now.code.code word.entry.bytes.now }
 {
     let mut room = [0; N];
@@ -33,7 +33,8 @@ pub fn unmet_checks(code: ValidCode, word: Bits<'_>) -> usize
     ensures { result ≡ unsatisfied_of code.code word.entry.bytes.now }
 {
     let g = CodeGraph::new(code);
-    if code.code.z <= 32 {
+    let z = g.code.code.z;
+    if z <= 32 {
         unmet_in::<1248>(&g, word)
     } else {
         unmet_in::<12636>(&g, word)
