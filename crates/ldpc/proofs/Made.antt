@@ -13,6 +13,7 @@ use lib.Dec.{eqb}
 use lib.ListN.{get_or}
 use Rattle.refusals.specs.Outcome.{Outcome, refused}
 use Rattle.tables.specs.declared.Shape.{Shape}
+use Rattle.tables.specs.declared.BaseGraph.{BaseGraph}
 use Rattle.tables.specs.Graph.{graph_number, base_columns, shape_of, graph_of, IsTableShape}
 use Rattle.tables.proofs.Sizes.{Shaped, shaped}
 use Rattle.matrix.specs.Edges.{edges}
@@ -248,3 +249,10 @@ known c m s e =
 -- the bounds that a valid code carries
 pub bounds : (c : Code) → made c ≡ true → (1 ≤ c.z) × (c.z ≤ 324) × (1 ≤ c.k) × (c.k ≤ c.n_tx) × (c.n_tx ≤ 19440)
 bounds c m = let S = sized c m in (S.lift, S.lift_most, S.info, omega (arith, S.parity), S.length_most)
+
+-- the information and the parity columns of a code's graph fill the block, and the information fits its columns
+pub parity_fills : (c : Code) → made c ≡ true → (g : BaseGraph) → g ≡ code_graph c → c.k + g.shape.m_b * c.z ≡ c.n_tx
+parity_fills c m g e = rw e (sized c m).parity
+
+pub info_fits : (c : Code) → made c ≡ true → (g : BaseGraph) → g ≡ code_graph c → c.k ≤ g.shape.k_b * c.z
+info_fits c m g e = rw e (sized c m).info_most
