@@ -1,4 +1,4 @@
-// What Start writes: the readings become the channel, the totals and the messages to the checks. 01, "Start". With it the two
+// What Start writes: the readings become the channel, the totals and the messages to the checks. With it the two
 // sizes that every call of a decode needs. What these functions require, their callers in this crate, word and decoder meet.
 #![tactic(auto)]
 
@@ -14,6 +14,7 @@ ghost use Rattle.sizes.specs.Lent.{sizes_of, Ready, Edges};
 ghost use Rattle.channel.specs.Channel.{channel_of, start_memory};
 
 use ldpc::Code;
+use lists::Lists;
 use sizes::Sizes;
 
 // Copies readings to the places from `at` on.
@@ -84,8 +85,13 @@ pub fn begin(c: Code, s: Sizes, rx: &[f32], work: &mut [f32])
     requires { Ready c s (length work.old) × (length rx.now ≡ c.n_tx) }
     ensures { work.new ≡ start_memory c rx.now work.old }
 {
-    let l = lists::lists_of(c);
-    let column = l.column;
-    let turn = l.turn;
-    put_messages(c, s, rx, &column, &turn, work);
+    let mut l = Lists {
+        order: [0; 172],
+        start: [0; 40],
+        column: [0; 172],
+        turn: [0; 172],
+        sorted: [0; 153],
+    };
+    lists::write_lists(c, &mut l);
+    put_messages(c, s, rx, &l.column, &l.turn, work);
 }

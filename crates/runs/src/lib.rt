@@ -8,6 +8,7 @@ ghost use Rattle.sizes.specs.Lent.{Ready, Rows, Edges, Sorted};
 ghost use Rattle.runs.specs.Runs.{alpha, unbroken, reach_of, Reached};
 
 use ldpc::Code;
+use lists::Lists;
 use sizes::Sizes;
 
 // How far a decode has got: the iterations done, and whether the last of them converged.
@@ -60,13 +61,17 @@ pub fn go_on(c: Code, s: Sizes, from: Reach, g: u16, work: &mut [f32]) -> Reach
     if from.converged {
         return from;
     }
-    let l = lists::lists_of(c);
-    let order = l.order;
-    let start = l.start;
-    let column = l.column;
-    let turn = l.turn;
-    let sorted = l.sorted;
-    iterations(c, s, from, g, &order, &start, &column, &turn, &sorted, work)
+    let mut l = Lists {
+        order: [0; 172],
+        start: [0; 40],
+        column: [0; 172],
+        turn: [0; 172],
+        sorted: [0; 153],
+    };
+    lists::write_lists(c, &mut l);
+    iterations(
+        c, s, from, g, &l.order, &l.start, &l.column, &l.turn, &l.sorted, work,
+    )
 }
 
 // Start, and at most `limit` iterations: the unbroken decode.

@@ -1,8 +1,8 @@
-// The word that a read writes: the decisions in transmitted order, and whether they are a codeword. 01, "Read".
+// The word that a read writes: the decisions in transmitted order, and whether they are a codeword.
 // What these functions require, their callers in this and the decoder's crate meet.
 #![tactic(auto)]
 
-ghost use Rattle.std.specs.Prelude.{◌≡◌, true, ◌&&◌, ◌+◌, ◌<◌, ◌≤◌, eqb, length};
+ghost use Rattle.std.specs.Prelude.{◌≡◌, true, ◌&&◌, ◌+◌, ◌<◌, ◌≤◌, eqb, length, map};
 ghost use Rattle.laws.specs.Written.{Written};
 ghost use Rattle.laws.specs.Floats.{negative};
 ghost use Rattle.matrix.specs.Encoding.{bit};
@@ -15,6 +15,7 @@ ghost use Rattle.word.specs.Word.{word_of};
 
 use ldpc::Code;
 use sizes::Sizes;
+use std::simd::prelude::*;
 
 // The decision on a total.
 fn decision(total: f32) -> u8
@@ -23,12 +24,27 @@ fn decision(total: f32) -> u8
     if rule::negative(total) { 1 } else { 0 }
 }
 
+// The decisions on sixteen.
+fn decisions(totals: f32x16) -> u8x16
+    ensures { result ≡ map (λ x. bit (negative x)) totals }
+{
+    totals
+        .simd_lt(f32x16::splat(0.0))
+        .select(i32x16::splat(1), i32x16::splat(0))
+        .cast()
+}
+
 // Writes the decisions on n totals, from `at` on, to the places from `to` on.
 fn decide(work: &[f32], at: usize, n: usize, out: &mut [u8], to: usize)
     requires { (at + n ≤ length work.now) × (to + n ≤ length out.old) }
     ensures { Written 0 to (λ i. i < n) (λ i. bit (negative (reading work.now at i))) out.old out.new }
 {
     let mut i = 0;
+    while n - i >= 16 {
+        let m = f32x16::from_slice(&work[at + i..]);
+        decisions(m).copy_to_slice(&mut out[to + i..]);
+        i += 16;
+    }
     while i < n {
         out[to + i] = decision(work[at + i]);
         i += 1;

@@ -22,7 +22,7 @@ pub iterations-requires : goal.iterations-requires
 unfolding lists_of
 iterations-requires c =
     let m = c.requires.0.is_made in
-    let sorted = subst (Sorted c.args.c) (sym (ap (λ l. l.sorted) c.lists_of-l.ensures)) (length_sorted c.args.c, λ v h. column_sorted c.args.c m v h) in record {
-      ready = (c.requires.0, (ap (λ l. l.order) c.lists_of-l.ensures, ap (λ l. l.start) c.lists_of-l.ensures), (ap (λ l. l.column) c.lists_of-l.ensures, ap (λ l. l.turn) c.lists_of-l.ensures), sorted);
+    let sorted = subst (Sorted c.args.c) (sym (ap (λ l. l.sorted) c.write_lists.ensures)) (length_sorted c.args.c, λ v h. column_sorted c.args.c m v h) in record {
+      ready = (c.requires.0, (ap (λ l. l.order) c.write_lists.ensures, ap (λ l. l.start) c.write_lists.ensures), (ap (λ l. l.column) c.write_lists.ensures, ap (λ l. l.turn) c.write_lists.ensures), sorted);
       converged_value = (c.if-from.false, omega (arith, c.requires.1));
     }
