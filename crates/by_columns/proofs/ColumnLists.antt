@@ -25,27 +25,6 @@ use Rattle.sizes.specs.Lent.{Turns}
 use Rattle.sizes.proofs.Lent.{Known, edge_at, per_edge_long}
 use Rattle.by_columns.proofs.ByColumns.{column_told}
 
--- column k_b: rows 0, m_b / 2 and m_b - 1
-pub middle_listed : (g : BaseGraph) → Shaped g.shape → (b : ℕ) → b ≡ 3 * g.shape.k_b → ColumnList g g.shape.k_b (b ∷ (b + 2) ∷ (b + 1) ∷ [])
-unfolding parity_row
-middle_listed g S b e =
-    let k = g.shape.k_b in
-    let m = g.shape.m_b in
-    let p : 3 ≤ m = S.rows in
-    let first : edge_row g b ≡ 0 = parity_row_lem g b (omega arith) ∙ ap (parity_row m) zeroth in
-    let last : edge_row g (b + 1) ≡ m - 1 = parity_row_lem g (b + 1) (omega arith) ∙ ap (parity_row m) one in
-    let middle : edge_row g (b + 2) ≡ m / 2 = parity_row_lem g (b + 2) (omega arith) ∙ ap (parity_row m) two in
-    three_listed g (omega arith) k (omega arith) b (b + 2) (b + 1) (omega arith) (omega arith) (omega arith) (omega arith) (omega arith)
-  where
-    zeroth : b - 3 * g.shape.k_b ≡ 0
-    zeroth = omega arith
-
-    one : b + 1 - 3 * g.shape.k_b ≡ 1
-    one = omega arith
-
-    two : b + 2 - 3 * g.shape.k_b ≡ 2
-    two = omega arith
-
 -- what the bit pass of column v asks of the list of its base edges, and what it comes to
 module _ (c : Code) (s : Sizes) (len : ℕ) (K : Known c s len) (turn : List ℕ) (T : Turns c turn) (v : ℕ) (v_lt : v < (code_graph c).shape.n_b)
     (l : List ℕ) (C : ColumnList (code_graph c) v l) where

@@ -1,2 +1,3 @@
--- What every pass is lent. Assumes nothing.
-pub mod Lent
+-- What every pass goes by. Assumes nothing.
+pub mod Sizes
+pub mod Room
