@@ -9,17 +9,16 @@ use Rattle.laws.specs.Written.{Written}
 use Rattle.laws.proofs.Slots.{row_le}
 use Rattle.matrix.specs.Edges.{ColumnList}
 use Rattle.messages.specs.Memory.{bits_of}
-use Rattle.ldpc.specs.Code.{code_graph}
+use Rattle.ldpc.specs.Code.{code_graph, work_of}
 use Rattle.ldpc.proofs.CodeEdges.{code_simple}
 use Rattle.sizes.specs.declared.sizes.Sizes.{Sizes}
 use Rattle.sizes.specs.declared.lifted.Lifted.{Lifted}
-use Rattle.sizes.specs.Room.{needed_by}
 use Rattle.sizes.proofs.Lent.{Known, known, EdgeIn, edge_in, turn_at}
 use Rattle.totals.specs.Joined.{Fits, AllFit, Place, sent_at}
 use Rattle.by_columns.specs.Columns.{ColumnDone}
 use Rattle.by_columns.proofs.ByColumns.{column_told}
 
-module _ (l : Lifted) (len : ℕ) (room : needed_by l ≤ len) (v : ℕ) (there : v < l.sizes.info + l.sizes.rows) (edges : List ℕ)
+module _ (l : Lifted) (len : ℕ) (room : work_of l.code.code ≤ len) (v : ℕ) (there : v < l.sizes.info + l.sizes.rows) (edges : List ℕ)
     (C : ColumnList (code_graph l.code.code) v edges) where
   abbrev s : Sizes
   s = l.sizes

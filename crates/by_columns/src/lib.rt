@@ -3,8 +3,7 @@
 
 ghost use Rattle.std.specs.Prelude.{◌+◌, ◌<◌, ◌≤◌, ◌≡◌, length};
 ghost use Rattle.messages.specs.Iteration.{total_pass, send_pass};
-ghost use Rattle.ldpc.specs.Code.{code_graph};
-ghost use Rattle.sizes.specs.Room.{needed_by};
+ghost use Rattle.ldpc.specs.Code.{code_graph, work_of};
 ghost use Rattle.by_columns.specs.Columns.{ColumnDone};
 
 use sizes::Lifted;
@@ -12,7 +11,7 @@ use sizes::Lifted;
 // Column v.
 fn column(l: &Lifted, v: usize, work: &mut [f32])
     requires there { v < l.now.sizes.info + l.now.sizes.rows }
-    requires room { needed_by l.now ≤ length work.old }
+    requires room { work_of l.now.code.code ≤ length work.old }
     ensures { ColumnDone (code_graph l.now.code.code) l.now.code.code.z v work.old work.new }
 {
     let s = l.sizes;
@@ -23,7 +22,7 @@ fn column(l: &Lifted, v: usize, work: &mut [f32])
 
 // The totals, and what every bit sends to its checks.
 pub fn bit_pass(l: &Lifted, work: &mut [f32])
-    requires { needed_by l.now ≤ length work.old }
+    requires { work_of l.now.code.code ≤ length work.old }
     ensures { work.new ≡ send_pass (code_graph l.now.code.code) l.now.code.code.z (total_pass (code_graph l.now.code.code) l.now.code.code.z work.old) }
 {
     for v in 0..l.sizes.info + l.sizes.rows {

@@ -3,8 +3,7 @@
 
 ghost use Rattle.std.specs.Prelude.{◌≡◌, ◌<◌, ◌≤◌, length};
 ghost use Rattle.messages.specs.Iteration.{check_pass, iteration};
-ghost use Rattle.ldpc.specs.Code.{code_graph};
-ghost use Rattle.sizes.specs.Room.{needed_by};
+ghost use Rattle.ldpc.specs.Code.{code_graph, work_of};
 ghost use Rattle.minsum.specs.Rows.{RowDone};
 
 use sizes::Lifted;
@@ -12,7 +11,7 @@ use sizes::Lifted;
 // The checks of base row r.
 fn row_pass(l: &Lifted, r: usize, factor: f32, work: &mut [f32])
     requires there { r < l.now.sizes.rows }
-    requires room { needed_by l.now ≤ length work.old }
+    requires room { work_of l.now.code.code ≤ length work.old }
     ensures { RowDone factor (code_graph l.now.code.code) l.now.code.code.z r work.old work.new }
 {
     let s = l.sizes;
@@ -22,7 +21,7 @@ fn row_pass(l: &Lifted, r: usize, factor: f32, work: &mut [f32])
 
 // What every check sends to its bits.
 fn check_pass(l: &Lifted, factor: f32, work: &mut [f32])
-    requires { needed_by l.now ≤ length work.old }
+    requires { work_of l.now.code.code ≤ length work.old }
     ensures { work.new ≡ check_pass factor (code_graph l.now.code.code) l.now.code.code.z work.old }
 {
     for r in 0..l.sizes.rows {
@@ -33,7 +32,7 @@ fn check_pass(l: &Lifted, factor: f32, work: &mut [f32])
 // One iteration.
 #[tactic(auto, unfolding(messages::specs::Iteration::iteration))]
 pub fn iterate(l: &Lifted, factor: f32, work: &mut [f32])
-    requires { needed_by l.now ≤ length work.old }
+    requires { work_of l.now.code.code ≤ length work.old }
     ensures { work.new ≡ iteration factor (code_graph l.now.code.code) l.now.code.code.z work.old }
 {
     check_pass(l, factor, work);

@@ -18,7 +18,7 @@ use Rattle.messages.specs.Memory.{bits_of, slots_of, to_checks_at, to_bits_at, n
 use Rattle.ldpc.specs.declared.choice.Code.{Code}
 use Rattle.ldpc.specs.declared.valid.ValidCode.{ValidCode}
 use Rattle.ldpc.specs.Choice.{made}
-use Rattle.ldpc.specs.Code.{code_graph}
+use Rattle.ldpc.specs.Code.{code_graph, work_of}
 use Rattle.ldpc.proofs.Made.{sized as made_sizes}
 use Rattle.ldpc.proofs.CodeEdges.{code_simple}
 use Rattle.lists.specs.Lists.{order_of, starts_of, per_edge, lists_of}
@@ -29,7 +29,6 @@ use Rattle.sizes.specs.declared.sizes.Sizes.{Sizes}
 use Rattle.sizes.specs.declared.lifted.Lifted.{Lifted}
 use Rattle.slots.specs.Row.{Within}
 use Rattle.sizes.specs.Sizes.{sizes_of}
-use Rattle.sizes.specs.Room.{needed_by}
 
 pub record Known (c : Code) (s : Sizes) (len : ℕ) : Type 0 where
   pub lift : 1 ≤ c.z
@@ -46,10 +45,11 @@ pub record Known (c : Code) (s : Sizes) (len : ℕ) : Type 0 where
   pub to_checks : 2 * s.bits ≡ to_checks_at (code_graph c) c.z
   pub to_bits : 2 * s.bits + s.slots ≡ to_bits_at (code_graph c) c.z
   pub room : 2 * s.bits + 2 * s.slots ≤ len
+  pub all : needed (code_graph c) c.z ≤ len
   pub shape : Shaped (code_graph c).shape
 
-known_by : (c : Code) (s : Sizes) (len : ℕ) → made c ≡ true → s ≡ sizes_of c → needed (code_graph c) c.z ≤ len → Known c s len
-unfolding sizes_of bits_of slots_of to_checks_at to_bits_at needed edges
+known_by : (c : Code) (s : Sizes) (len : ℕ) → made c ≡ true → s ≡ sizes_of c → work_of c ≤ len → Known c s len
+unfolding sizes_of bits_of slots_of to_checks_at to_bits_at needed edges work_of
 known_by c s len m e room =
     let S = made_sizes c m in
     let g = (code_graph c).shape in
@@ -70,14 +70,15 @@ known_by c s len m e room =
       to_checks = refl;
       to_bits = refl;
       room = room;
+      all = room;
       shape = S.shape;
     })
 
 -- of a valid code's sizes
-pub sizes_known : (v : ValidCode) (s : Sizes) (len : ℕ) → s ≡ sizes_of v.code → needed (code_graph v.code) v.code.z ≤ len → Known v.code s len
+pub sizes_known : (v : ValidCode) (s : Sizes) (len : ℕ) → s ≡ sizes_of v.code → work_of v.code ≤ len → Known v.code s len
 sizes_known v s len e room = known_by v.code s len v.made e room
 
-pub known : (l : Lifted) (len : ℕ) → needed_by l ≤ len → Known l.code.code l.sizes len
+pub known : (l : Lifted) (len : ℕ) → work_of l.code.code ≤ len → Known l.code.code l.sizes len
 known l len room = known_by l.code.code l.sizes len l.code.made l.sized room
 
 -- base edge b in the lists
@@ -106,8 +107,8 @@ module _ (l : Lifted) where
   abbrev g : BaseGraph
   g = code_graph c
 
-  K : Known c l.sizes (needed_by l)
-  K = known l (needed_by l) (omega arith)
+  K : Known c l.sizes (work_of l.code.code)
+  K = known l (work_of l.code.code) (omega arith)
 
   column_list : l.lists.now.column ≡ per_edge g (edge_column g)
   unfolding lists_of
@@ -239,7 +240,7 @@ row_slot_end : (l : Lifted) (r i : ℕ) → i < length (row_edges (code_graph l.
 row_slot_end l r i h = (edge_in l _ (row_edge_lt l r i h)).slot_end
 
 -- what a row's checks ask of their list
-pub row_asked : (l : Lifted) (len r : ℕ) (part : List ℕ) → needed_by l ≤ len → part ≡ row_edges (code_graph l.code.code) r
+pub row_asked : (l : Lifted) (len r : ℕ) (part : List ℕ) → work_of l.code.code ≤ len → part ≡ row_edges (code_graph l.code.code) r
     → (0 < l.code.code.z) × (l.code.code.z ≤ 324) × Within l.code.code.z (2 * l.sizes.bits) (2 * l.sizes.bits + l.sizes.slots) part
     × Within l.code.code.z (2 * l.sizes.bits + l.sizes.slots) len part
 row_asked l len r part room e =

@@ -1,3 +1,2 @@
 -- What every pass goes by. Assumes nothing.
 pub mod Sizes
-pub mod Room

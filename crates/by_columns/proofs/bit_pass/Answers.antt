@@ -18,5 +18,5 @@ pub returns : goal.returns
 returns c =
     let l = c.args.l.now in
     let K = known l (length c.args.work.now) c.requires in
-    columns_done (code_graph l.code.code) l.code.code.z K.lift (code_simple l.code.code) c.args.work.now c.requires c.loop-v.v _
+    columns_done (code_graph l.code.code) l.code.code.z K.lift (code_simple l.code.code) c.args.work.now K.all c.loop-v.v _
     (omega (arith, c.loop-v-test.false, K.info_is, K.rows_is, K.shape.columns)) c.loop-v.invariant

@@ -17,5 +17,5 @@ pub returns : goal.returns
 returns c =
     let l = c.args.l.now in
     let K = known l (length c.args.work.now) c.requires in
-    check_done (code_graph l.code.code) l.code.code.z K.lift (code_simple l.code.code) c.args.work.now c.requires
+    check_done (code_graph l.code.code) l.code.code.z K.lift (code_simple l.code.code) c.args.work.now K.all
     c.args.factor _ c.loop-r.r (omega (arith, K.rows_is, c.loop-r-test.false)) c.loop-r.invariant
