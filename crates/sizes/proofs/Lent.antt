@@ -81,6 +81,10 @@ sizes_known v s len e room = known_by v.code s len v.made e room
 pub known : (l : Lifted) (len : ℕ) → work_of l.code.code ≤ len → Known l.code.code l.sizes len
 known l len room = known_by l.code.code l.sizes len l.code.made l.sized room
 
+-- the work memory holds two regions of N numbers and two of E
+pub room : (l : Lifted) (len : ℕ) → work_of l.code.code ≤ len → 2 * l.sizes.bits + 2 * l.sizes.slots ≤ len
+room l len h = (known l len h).room
+
 -- base edge b in the lists
 pub record EdgeIn (l : Lifted) (b : ℕ) : Type 0 where
   pub column_there : b < length l.lists.now.column
