@@ -17,7 +17,15 @@ fn column(l: &Lifted, v: usize, work: &mut [f32])
     let s = l.sizes;
     let z = l.code.code.z;
     let turn = &l.lists.turn[..];
-    totals::column_pass(work, s.bits, 2 * s.bits + s.slots, z, v * z, l.column(v), turn);
+    totals::column_pass(
+        work,
+        s.bits,
+        2 * s.bits + s.slots,
+        z,
+        v * z,
+        l.column(v),
+        turn,
+    );
 }
 
 // The totals, and what every bit sends to its checks.

@@ -13,6 +13,7 @@ use lib.Dec.{eqb}
 use lib.ListN.{get_or}
 use Rattle.refusals.specs.Outcome.{Outcome, refused}
 use Rattle.tables.specs.declared.Shape.{Shape}
+use Rattle.tables.specs.declared.BaseGraph.{BaseGraph}
 use Rattle.tables.specs.Graph.{graph_number, base_columns, shape_of, graph_of, IsTableShape}
 use Rattle.tables.proofs.Sizes.{Shaped, shaped}
 use Rattle.matrix.specs.Edges.{edges}
@@ -258,3 +259,9 @@ parity_is c m =
     let S = sized c m in
     let s = (code_graph c).shape in
     omega (arith, S.parity, add-mul s.k_b s.m_b c.z, ap (λ (x : ℕ). x * c.z) S.shape.columns)
+-- the information and the parity columns of a code's graph fill the block, and the information fits its columns
+pub parity_fills : (c : Code) → made c ≡ true → (g : BaseGraph) → g ≡ code_graph c → c.k + g.shape.m_b * c.z ≡ c.n_tx
+parity_fills c m g e = rw e (sized c m).parity
+
+pub info_fits : (c : Code) → made c ≡ true → (g : BaseGraph) → g ≡ code_graph c → c.k ≤ g.shape.k_b * c.z
+info_fits c m g e = rw e (sized c m).info_most
