@@ -27,7 +27,8 @@ pub fn add(sums: &mut [u8], bits: &[u8])
     }
 }
 
-// Adds the one bit of a column, where it is there. By `add` an encoding of 60 bits, at a lift of 1, takes twice as long.
+// Adds the one bit of a column, where it is there. By `add` the edges of an encoding of 60 bits, at a lift of 1, take twice the
+// instructions.
 fn add_bit(sums: &mut [u8], column: &[u8])
     requires { (length sums.old ≡ 1) × (length column.now ≤ 1) }
     ensures { Added column.now sums.old sums.new }
