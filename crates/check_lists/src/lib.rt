@@ -38,7 +38,8 @@ pub fn count_members(g: &CodeGraph, check: usize, n: usize) -> usize
 {
     let mut count = 0;
     for b in 0..n {
-        if member_at(g, check, b).is_some() {
+        let m = member_at(g, check, b);
+        if let Some(_) = m {
             count += 1;
         }
     }
@@ -53,7 +54,8 @@ pub fn write_members(g: &CodeGraph, check: usize, n: usize, out: &mut [u32])
 {
     let mut count = 0;
     for b in 0..n {
-        if let Some(place) = member_at(g, check, b) {
+        let m = member_at(g, check, b);
+        if let Some(place) = m {
             out[count] = place as u32;
             count += 1;
         }
