@@ -9,6 +9,7 @@ use refusals::Refusal;
 
 // How many numbers a code record has, and a decode record.
 pub const CODE: usize = 6;
+
 pub const DECODE: usize = 8;
 
 // The code record in six numbers.

@@ -15,7 +15,10 @@ fn choose(rate: usize, n_tx: usize, fields: &mut [usize]) -> Result<Code, Refusa
 {
     let given = fields.len();
     let Some(fields) = fields.as_mut_array() else {
-        return Err(Refusal::Output { given, wanted: CODE });
+        return Err(Refusal::Output {
+            given,
+            wanted: CODE,
+        });
     };
     let code = Code::new(rate, n_tx)?;
     *fields = code_numbers(code);
