@@ -1,4 +1,6 @@
--- The laws of bytes that are bits, of clipped runs, and of runs that are turned. Assumes nothing.
+-- The laws of bytes that are bits, of words of them, and of rows. Assumes nothing.
 pub mod Bytes
-pub mod Clips
+pub mod Above
+pub mod Row
 pub mod Turned
+pub mod Put

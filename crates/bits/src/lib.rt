@@ -7,5 +7,5 @@ mod sums;
 mod words;
 
 pub use rows::{copy_info, step_row, total_of, turn_back};
-pub use sums::{Part, add_turned, clear, clipped};
-pub use words::{count_ones, first_not_bit};
+pub use sums::{add_turned, clipped};
+pub use words::{Bits, count_ones};

@@ -1,85 +1,59 @@
--- The list of a column's base edges, what its bit pass asks of it and what that comes to. Assumes nothing.
-use mathlib.Core.Path.{◌≡◌, ap, subst, ◌∙◌}
-use mathlib.Core.List.{List, [], ◌∷◌}
-use Prim.Native.Nat.{ℕ, ◌+◌, ◌*◌, ◌/◌, ◌%◌, ◌-◌, ◌<◌, ◌≤◌}
+-- What the bit pass of a column asks of the list of its base edges, and what it comes to. Assumes nothing.
+use mathlib.Core.Path.{sym, subst}
+use mathlib.Core.List.{List}
+use Prim.Native.Nat.{ℕ, ◌+◌, ◌*◌, ◌<◌, ◌≤◌}
 use native.Mathlib.Omega.{arith}
-use native.Mathlib.Nat.{mod-lt}
 use lib.ListN.{length, get_or}
-use Rattle.laws.proofs.Slots.{row_le}
 use lib.Ieee.{Float, nan}
 use Rattle.laws.specs.Written.{Written}
-use Rattle.tables.proofs.Sizes.{Shaped}
-use Rattle.matrix.specs.Edges.{edges, edge_row, edge_shift, ColumnList}
-use Rattle.laws.specs.Columns.{parity_row}
-use Rattle.tables.specs.declared.BaseGraph.{BaseGraph}
-use Rattle.matrix.proofs.Edges.{parity_row_lem}
-use Rattle.matrix.proofs.ByColumn.{three_listed}
-use Rattle.messages.specs.Memory.{bits_of, slots_of}
-use Rattle.ldpc.specs.declared.choice.Code.{Code}
-use Rattle.ldpc.specs.Code.{code_graph}
+use Rattle.laws.proofs.Slots.{row_le}
+use Rattle.matrix.specs.Edges.{ColumnList}
+use Rattle.messages.specs.Memory.{bits_of}
+use Rattle.ldpc.specs.Code.{code_graph, work_of}
 use Rattle.ldpc.proofs.CodeEdges.{code_simple}
-use Rattle.sizes.specs.declared.Sizes.{Sizes}
+use Rattle.sizes.specs.declared.sizes.Sizes.{Sizes}
+use Rattle.sizes.specs.declared.lifted.Lifted.{Lifted}
+use Rattle.sizes.proofs.Lent.{Known, known, EdgeIn, edge_in, turn_at}
 use Rattle.totals.specs.Joined.{Fits, AllFit, Place, sent_at}
 use Rattle.by_columns.specs.Columns.{ColumnDone}
-use Rattle.sizes.specs.Lent.{Turns}
-use Rattle.sizes.proofs.Lent.{Known, edge_at, per_edge_long}
 use Rattle.by_columns.proofs.ByColumns.{column_told}
 
--- column k_b: rows 0, m_b / 2 and m_b - 1
-pub middle_listed : (g : BaseGraph) → Shaped g.shape → (b : ℕ) → b ≡ 3 * g.shape.k_b → ColumnList g g.shape.k_b (b ∷ (b + 2) ∷ (b + 1) ∷ [])
-unfolding parity_row
-middle_listed g S b e =
-    let k = g.shape.k_b in
-    let m = g.shape.m_b in
-    let p : 3 ≤ m = S.rows in
-    let first : edge_row g b ≡ 0 = parity_row_lem g b (omega arith) ∙ ap (parity_row m) zeroth in
-    let last : edge_row g (b + 1) ≡ m - 1 = parity_row_lem g (b + 1) (omega arith) ∙ ap (parity_row m) one in
-    let middle : edge_row g (b + 2) ≡ m / 2 = parity_row_lem g (b + 2) (omega arith) ∙ ap (parity_row m) two in
-    three_listed g (omega arith) k (omega arith) b (b + 2) (b + 1) (omega arith) (omega arith) (omega arith) (omega arith) (omega arith)
-  where
-    zeroth : b - 3 * g.shape.k_b ≡ 0
-    zeroth = omega arith
+module _ (l : Lifted) (len : ℕ) (room : work_of l.code.code ≤ len) (v : ℕ) (there : v < l.sizes.info + l.sizes.rows) (edges : List ℕ)
+    (C : ColumnList (code_graph l.code.code) v edges) where
+  abbrev s : Sizes
+  s = l.sizes
 
-    one : b + 1 - 3 * g.shape.k_b ≡ 1
-    one = omega arith
+  abbrev z : ℕ
+  z = l.code.code.z
 
-    two : b + 2 - 3 * g.shape.k_b ≡ 2
-    two = omega arith
+  abbrev K : Known l.code.code l.sizes len
+  K = known l len room
 
--- what the bit pass of column v asks of the list of its base edges, and what it comes to
-module _ (c : Code) (s : Sizes) (len : ℕ) (K : Known c s len) (turn : List ℕ) (T : Turns c turn) (v : ℕ) (v_lt : v < (code_graph c).shape.n_b)
-    (l : List ℕ) (C : ColumnList (code_graph c) v l) where
   abbrev msg : ℕ
   msg = 2 * s.bits + s.slots
 
-  turns : (b : ℕ) → b < edges (code_graph c) → get_or turn b 0 ≡ edge_shift (code_graph c) b % c.z
-  turns b h = edge_at c s len K _ turn T b h
+  v_lt : v < (code_graph l.code.code).shape.n_b
+  v_lt = omega (arith, there, K.info_is, K.rows_is, K.shape.columns)
 
-  fits : (i : ℕ) → i < length l → Fits c.z (s.bits + s.bits) msg len turn (get_or l i 0)
-  unfolding slots_of
+  fits : (i : ℕ) → i < length edges → Fits z (s.bits + s.bits) msg len l.lists.now.turn (get_or edges i 0)
   fits i h =
-      let b_lt = C.edge_lt i h in
-      let slot_end : get_or l i 0 * c.z + c.z ≤ s.slots = rw K.slots_is (row_le c.z b_lt) in
-      record {
-        turn_there = omega (arith, per_edge_long c s len K _ turn T, K.edges_most);
-        turn_lt = rw (turns (get_or l i 0) b_lt) (mod-lt (edge_shift (code_graph c) (get_or l i 0)) K.lift);
-        before = omega arith;
-        inside = omega (arith, K.room);
-      }
+      let E = edge_in l (get_or edges i 0) (C.edge_lt i h) in
+      record { turn_there = E.turn_there; turn_lt = E.turn_lt; before = omega (arith, E.slot_end); inside = omega (arith, E.slot_end, K.room) }
 
-  pub column_within : v * c.z + c.z ≤ s.bits
+  pub column_within : v * z + z ≤ s.bits
   unfolding bits_of
-  column_within = rw K.bits_is (row_le c.z v_lt)
+  column_within = subst (λ (x : ℕ). v * z + z ≤ x) (sym K.bits_is) (row_le z v_lt)
 
-  pub column_asked : (0 < c.z) × (c.z ≤ 324) × (v * c.z + c.z ≤ s.bits) × (s.bits ≤ 19440) × (s.bits + s.bits ≤ msg) × (s.bits + s.bits ≤ len)
-      × AllFit c.z (s.bits + s.bits) msg len turn l
+  pub column_asked : (0 < z) × (z ≤ 324) × (v * z + z ≤ s.bits) × (s.bits ≤ 19440) × (s.bits + s.bits ≤ msg) × (s.bits + s.bits ≤ len)
+      × AllFit z (s.bits + s.bits) msg len l.lists.now.turn edges
   column_asked = (K.lift, K.lift_most, column_within, K.bits_most, omega arith, omega (arith, K.room), fits)
 
   pub column_done : (w w' : List Float)
-      → Written nan s.bits (Place s.bits (v * c.z) c.z l) (sent_at s.bits msg c.z turn (v * c.z) l w) w w'
-      → ColumnDone (code_graph c) c.z v w w'
+      → Written nan s.bits (Place s.bits (v * z) z edges) (sent_at s.bits msg z l.lists.now.turn (v * z) edges w) w w'
+      → ColumnDone (code_graph l.code.code) z v w w'
   column_done w w' W =
-      column_told (code_graph c) c.z K.lift (code_simple c) v v_lt l C turn turns w w'
-      (subst (λ (x : ℕ). Written nan (bits_of (code_graph c) c.z) (Place (bits_of (code_graph c) c.z) (v * c.z) c.z l)
-      (sent_at (bits_of (code_graph c) c.z) x c.z turn (v * c.z) l w) w w') K.to_bits
-      (subst (λ (x : ℕ). Written nan x (Place x (v * c.z) c.z l) (sent_at x msg c.z turn (v * c.z) l w) w w') K.bits_is W))
+      let g = code_graph l.code.code in
+      column_told g z K.lift (code_simple l.code.code) v v_lt edges C l.lists.now.turn (turn_at l) w w'
+      (subst (λ (x : ℕ). Written nan (bits_of g z) (Place (bits_of g z) (v * z) z edges)
+      (sent_at (bits_of g z) x z l.lists.now.turn (v * z) edges w) w w') K.to_bits
+      (subst (λ (x : ℕ). Written nan x (Place x (v * z) z edges) (sent_at x msg z l.lists.now.turn (v * z) edges w) w w') K.bits_is W))

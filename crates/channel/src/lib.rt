@@ -1,30 +1,26 @@
-// What Start writes: the readings become the channel, the totals and the messages to the checks. 01, "Start". With it the two
-// sizes that every call of a decode needs. What these functions require, their callers in this crate, word and decoder meet.
+// What a start writes into work memory: the channel, the totals and the messages.
 #![tactic(auto)]
 
 mod spread;
 
-ghost use Rattle.std.specs.Prelude.{◌≡◌, true, ◌+◌, ◌≤◌, length, get_or};
+ghost use Rattle.std.specs.Prelude.{◌≡◌, ◌+◌, ◌≤◌, length, get_or};
 ghost use Rattle.std.specs.Float.{nan};
 ghost use Rattle.messages.specs.Memory.{bits_of};
-ghost use Rattle.ldpc.specs.Choice.{made};
-ghost use Rattle.ldpc.specs.Code.{code_graph, info_end, work_of};
+ghost use Rattle.ldpc.specs.Code.{code_graph, work_of};
 ghost use Rattle.slots.specs.Row.{Ran};
-ghost use Rattle.sizes.specs.Lent.{sizes_of, Ready, Edges};
 ghost use Rattle.channel.specs.Channel.{channel_of, start_memory};
 
-use ldpc::Code;
-use sizes::Sizes;
+use ldpc::{Code, ValidCode};
+use lists::Lists;
+use sizes::Lifted;
 
 // Copies readings to the places from `at` on.
 fn put(work: &mut [f32], at: usize, readings: &[f32])
     requires { at + length readings.now ≤ length work.old }
     ensures { Ran at (length readings.now) (λ i. get_or readings.now i nan) work.old work.new }
 {
-    let mut i = 0;
-    while i < readings.len() {
+    for i in 0..readings.len() {
         work[at + i] = readings[i];
-        i += 1;
     }
 }
 
@@ -33,59 +29,46 @@ fn fill(work: &mut [f32], at: usize, n: usize, x: f32)
     requires { at + n ≤ length work.old }
     ensures { Ran at n (λ i. x) work.old work.new }
 {
-    let mut i = 0;
-    while i < n {
+    for i in 0..n {
         work[at + i] = x;
-        i += 1;
     }
 }
 
-// Where the parity columns begin in the lifted word.
-pub fn parity_at(c: Code, s: Sizes) -> usize
-    requires { (made c ≡ true) × (s ≡ sizes_of c) }
-    ensures { result ≡ info_end c }
-{
-    s.bits - s.rows * c.z
-}
-
-// The work memory that a decode needs.
-pub fn work_needed(c: Code, s: Sizes) -> usize
-    requires { (made c ≡ true) × (s ≡ sizes_of c) }
-    ensures { result ≡ work_of c }
-{
-    2 * s.bits + 2 * s.slots
-}
-
 // The channel: readings below k, certain ones up to where parity begins, and there the readings from k on.
-fn put_channel(c: Code, s: Sizes, rx: &[f32], work: &mut [f32])
-    requires { Ready c s (length work.old) × (length rx.now ≡ c.n_tx) }
-    ensures { Ran 0 (bits_of (code_graph c) c.z) (channel_of c rx.now) work.old work.new }
+#[tactic(auto, unfolding(ldpc::specs::Code::work_of))]
+fn put_channel(code: ValidCode, rx: &[f32], work: &mut [f32])
+    requires given { length rx.now ≡ code.code.n_tx }
+    requires room { work_of code.code ≤ length work.old }
+    ensures { Ran 0 (bits_of (code_graph code.code) code.code.z) (channel_of code.code rx.now) work.old work.new }
 {
-    let k = c.k;
-    let end = parity_at(c, s);
+    let k = code.code.k;
+    let end = code.info_end();
     put(work, 0, &rx[..k]);
     fill(work, k, end - k, Code::CERTAIN);
     put(work, end, &rx[k..]);
 }
 
-// Everything that Start writes, given the lists by edge.
-fn put_messages(c: Code, s: Sizes, rx: &[f32], column: &[u8], turn: &[u16], work: &mut [f32])
-    requires { Ready c s (length work.old) × (length rx.now ≡ c.n_tx) × Edges c column.now turn.now }
-    ensures { work.new ≡ start_memory c rx.now work.old }
+// Everything that a start writes.
+fn put_messages(l: &Lifted, rx: &[f32], work: &mut [f32])
+    requires given { length rx.now ≡ l.now.code.code.n_tx }
+    requires room { work_of l.now.code.code ≤ length work.old }
+    ensures { work.new ≡ start_memory l.now.code.code rx.now work.old }
 {
-    put_channel(c, s, rx, work);
+    let s = l.sizes;
+    put_channel(l.code, rx, work);
     segments::copy_run(work, s.bits, 0, s.bits);
-    spread::spread_pass(c, s, column, turn, work);
+    spread::spread_pass(l, work);
     fill(work, 2 * s.bits + s.slots, s.slots, 0.0);
 }
 
 // The same, by lists made here.
-pub fn begin(c: Code, s: Sizes, rx: &[f32], work: &mut [f32])
-    requires { Ready c s (length work.old) × (length rx.now ≡ c.n_tx) }
-    ensures { work.new ≡ start_memory c rx.now work.old }
+pub fn begin(code: ValidCode, rx: &[f32], work: &mut [f32])
+    requires given { length rx.now ≡ code.code.n_tx }
+    requires room { work_of code.code ≤ length work.old }
+    ensures { work.new ≡ start_memory code.code rx.now work.old }
 {
-    let l = lists::lists_of(c);
-    let column = l.column;
-    let turn = l.turn;
-    put_messages(c, s, rx, &column, &turn, work);
+    let mut lists = Lists::blank();
+    lists::write_lists(code, &mut lists);
+    let l = Lifted::new(code, &lists);
+    put_messages(&l, rx, work);
 }

@@ -1,4 +1,5 @@
 -- What `member_at` tells: whether a base edge gives a member of the check, and its place, which lies in the transmitted word. Assumes nothing.
+use Rattle.std.specs.Prelude.{Some, None}
 use mathlib.Core.Path.{◌≡◌, refl, ap}
 use mathlib.Core.Bool.{Bool, true, false, cond, and-eq-true_iff}
 use Prim.Native.Nat.{ℕ, ◌*◌, ◌/◌, ◌%◌, ◌<◌}
@@ -12,19 +13,18 @@ use Rattle.ldpc.specs.Choice.{made}
 use Rattle.ldpc.specs.Code.{code_graph, info_end}
 use Rattle.ldpc.proofs.Made.{sized}
 use Rattle.ldpc.proofs.CodeEdges.{code_simple}
-use Rattle.check_lists.specs.declared.Sent.TheVariants.{Place, None}
 use Rattle.check_lists.specs.Members.{is_member, member_place, member_at}
 
-given : (t : Bool) (p q : ℕ) → Place p ≡ cond t (Place q) None → (t ≡ true) × (p ≡ q)
+given : (t : Bool) (p q : ℕ) → Some p ≡ cond t (Some q) None → (t ≡ true) × (p ≡ q)
 given true p q e = (refl, cc)
 given false p q e = let z : ◌≡◌ {A = ℕ} 0 1 = cc in absurd (omega arith)
 
-withheld : (t : Bool) (q : ℕ) → None ≡ cond t (Place q) None → t ≡ false
+withheld : (t : Bool) (q : ℕ) → None ≡ cond t (Some q) None → t ≡ false
 withheld true q e = let z : ◌≡◌ {A = ℕ} 0 1 = cc in absurd (omega arith)
 withheld false q e = refl
 
 module _ (c : Code) (check b : ℕ) where
-  pub place_told : {p : ℕ} → Place p ≡ member_at c check b → (is_member c check b ≡ true) × (p ≡ member_place c check b)
+  pub place_told : {p : ℕ} → Some p ≡ member_at c check b → (is_member c check b ≡ true) × (p ≡ member_place c check b)
   unfolding member_at
   place_told {p} e = given (is_member c check b) p (member_place c check b) e
 

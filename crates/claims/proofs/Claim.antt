@@ -1,6 +1,6 @@
 -- Demand 3 as one theorem on every list of calls: `broken_off`. Beside it, that what lies past the needed numbers is untouched, and
 -- that the one call is a start, a grant and a read. Assumes nothing.
-use Rattle.std.specs.Prelude.{Ok}
+use Rattle.std.specs.Prelude.{Ok, Err}
 use mathlib.Core.Path.{◌≡◌, refl, sym, ap, ap₂, ◌∙◌}
 use mathlib.Core.Bool.{true, false}
 use mathlib.Core.List.{List, [], ◌∷◌, ◌++◌}
@@ -11,7 +11,8 @@ use lib.ListN.{length, take, drop, get_or, length-take, take-append-drop}
 use lib.Seq.{take-length}
 use lib.Ieee.{Float, nan}
 use borrow.Author.Tests.{le-ltb}
-use Rattle.refusals.specs.Outcome.{Outcome, refused, after, if_length}
+use Rattle.refusals.specs.Outcome.{Outcome, after, if_length}
+use Rattle.refusals.specs.declared.Numbers.{Numbers}
 use Rattle.laws.specs.Run.{Progress, run}
 use Rattle.laws.proofs.Front.{front_lent, front_past}
 use Rattle.laws.proofs.Run.{seen}
@@ -64,19 +65,19 @@ module _ (c : Code) (m : made c ≡ true) (rx w : List Float) (enough : work_of 
     left t =
         record {
           decode = returned t (record_of c now);
-          memory = after t granted_now.memory (take lent now.memory) ++ drop lent now.memory;
+          memory = after t (λ _. granted_now.memory) (take lent now.memory) ++ drop lent now.memory;
         }
 
-    refusal_left : (n a b : ℕ) → left (refused n a b) ≡ held_at c rx w sum
+    refusal_left : (n : Numbers) → left (Err n) ≡ held_at c rx w sum
     unfolding left held_at
-    refusal_left n a b = ap (λ v. record { decode = record_of c now; memory = v }) (take-append-drop lent now.memory)
+    refusal_left n = ap (λ v. record { decode = record_of c now; memory = v }) (take-append-drop lent now.memory)
 
     grant_held : held_after (held_at c rx w sum) (grant g lent) ≡ held_at c rx w (sum_after c rx w sum (grant g lent))
     unfolding held_after held_at sum_after grant_written owed_grant left record_of
     grant_held =
         ap left grant_told_lem
-        ∙ work_cases (λ t. left t ≡ held_at c rx w (after t (sum + g) sum)) refusal_left c (min lent (length w))
-        (λ h. sum_cases (λ t. left t ≡ held_at c rx w (after t (sum + g) sum)) refusal_left (now.iterations + g)
+        ∙ work_cases (λ t. left t ≡ held_at c rx w (after t (λ _. sum + g) sum)) refusal_left c (min lent (length w))
+        (λ h. sum_cases (λ t. left t ≡ held_at c rx w (after t (λ _. sum + g) sum)) refusal_left (now.iterations + g)
         (ap (λ (p : Progress (List Float)). record { decode = record_of c (later g); memory = p.memory }) (goes_on (rw (given lent) h))))
 
   module _ (lent : ℕ) where
@@ -89,15 +90,15 @@ module _ (c : Code) (m : made c ≡ true) (rx w : List Float) (enough : work_of 
         ∙ ap (λ n. if_work c n (Ok (result_of c now))) (given lent))
 
     read_written_lem : (out : List ℕ) → read_written (record_of c now) (take lent now.memory) out
-        ≡ after (owed_read c rx w sum lent (length out)) (word_of c now.memory) out
+        ≡ after (owed_read c rx w sum lent (length out)) (λ _. word_of c now.memory) out
     unfolding read_written owed_read record_of
     read_written_lem out =
-        ap (λ t. after t (word_of c (take lent now.memory)) out) (read_told_lem (length out))
-        ∙ length_cases same (λ n a b. refl) 9 (length out) c.n_tx
-        (λ e. work_cases same (λ n a b. refl) c (min lent (length w)) (λ h. word_lent c m lent now.memory (rw (given lent) h)))
+        ap (λ t. after t (λ _. word_of c (take lent now.memory)) out) (read_told_lem (length out))
+        ∙ length_cases same (λ n. refl) 9 (length out) c.n_tx
+        (λ e. work_cases same (λ n. refl) c (min lent (length w)) (λ h. word_lent c m lent now.memory (rw (given lent) h)))
       where
         same : Outcome DecodeResult → Type 0
-        same t = after t (word_of c (take lent now.memory)) out ≡ after t (word_of c now.memory) out
+        same t = after t (λ _. word_of c (take lent now.memory)) out ≡ after t (λ _. word_of c now.memory) out
 
   answers_one : (call : Call) → answer_of (held_at c rx w sum) call ≡ owed_answer c rx w sum call
   unfolding answer_of held_at owed_answer
@@ -158,7 +159,7 @@ module _ (c : Code) (rx w : List Float) (lent : ℕ) (d : Decode) (start : start
   unfolding begun start_written held_at unbroken iterated run record_of
   begins =
       ap₂ (λ (e : Decode) (v : List Float). record { decode = e; memory = v }) given_start.is
-      (ap (λ t. after t (start_memory c rx (take lent w)) (take lent w) ++ drop lent w) start
+      (ap (λ t. after t (λ _. start_memory c rx (take lent w)) (take lent w) ++ drop lent w) start
       ∙ front_lent (start_front c rx) lent w given_start.enough)
 
   pub broken_off : (calls : List Call)

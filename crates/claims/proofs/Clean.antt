@@ -56,4 +56,4 @@ clean d w out x e =
     let (m, is) = read_given d w (length out) x e in
     subst (λ (r : DecodeResult). (r.clean ≡ true) ↔ ((r.converged ≡ true) × Encoded d.code (read_written d w out))) is
     (subst (λ (t : Outcome DecodeResult). ((result_of d.code (progress_of d w)).clean ≡ true)
-    ↔ ((d.converged ≡ true) × Encoded d.code (after t (word_of d.code w) out))) (sym e) (clean_result d w m))
+    ↔ ((d.converged ≡ true) × Encoded d.code (after t (λ _. word_of d.code w) out))) (sym e) (clean_result d w m))

@@ -48,13 +48,13 @@ module _ (c : Code) (rx w : List Float) (lent : ℕ) (d : Decode) (start : start
       let A = accepted c rx (length (take lent w)) d start in
       let room : work_of c ≤ length w = omega (arith, A.enough, length-take lent w) in
       let sum : ℕ = sum_of c rx w 0 calls in
-      let k : read_out (owed_read c rx w sum lent' (length out)) (after (owed_read c rx w sum lent' (length out)) (word_of c (unbroken alpha c rx w sum).memory) out)
+      let k : read_out (owed_read c rx w sum lent' (length out)) (after (owed_read c rx w sum lent' (length out)) (λ _. word_of c (unbroken alpha c rx w sum).memory) out)
       ≡ read_out (Ok x) word
       = sym (reads_after c rx w lent d start calls (read lent' out)) ∙ e in
       let told : owed_read c rx w sum lent' (length out) ≡ Ok x = cc in
-      let wrote : after (owed_read c rx w sum lent' (length out)) (word_of c (unbroken alpha c rx w sum).memory) out ≡ word = cc in (
+      let wrote : after (owed_read c rx w sum lent' (length out)) (λ _. word_of c (unbroken alpha c rx w sum).memory) out ≡ word = cc in (
         sym (gives c rx w sum lent' out x told)
             ∙ one_iteration alpha alpha_positive c A.code_made rx w room info length_info bits readings sum h,
-        sym wrote ∙ ap (λ t. after t (word_of c (unbroken alpha c rx w sum).memory) out) told
+        sym wrote ∙ ap (λ t. after t (λ _. word_of c (unbroken alpha c rx w sum).memory) out) told
             ∙ that_word alpha alpha_positive c A.code_made rx w room info length_info bits readings sum h,
       )

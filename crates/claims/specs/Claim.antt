@@ -1,7 +1,6 @@
 -- Demand 3 over a list of calls: what the calls do, and what is owed of them. 01, "Lists". Assumes nothing.
-use Rattle.std.specs.Prelude.{Ok}
-use Rattle.std.specs.Prelude.{List, [], ◌∷◌, ◌++◌, ℕ, ◌+◌, min, length, take, drop, Float}
-use Rattle.refusals.specs.Outcome.{Outcome, refused, after, if_length}
+use Rattle.std.specs.Prelude.{Ok, Err, List, [], ◌∷◌, ◌++◌, ℕ, ◌+◌, min, length, take, drop, Float}
+use Rattle.refusals.specs.Outcome.{Outcome, after, if_length}
 use Rattle.ldpc.specs.declared.choice.Code.{Code}
 use Rattle.decoder.specs.declared.record.Decode.{Decode}
 use Rattle.decoder.specs.declared.record.DecodeResult.{DecodeResult}
@@ -29,7 +28,7 @@ pub record Held : Type 0 where
 -- the record that a call returned, or the one from before where it refused
 abbrev pub returned : Outcome Decode → Decode → Decode
 returned (Ok d) before = d
-returned (refused n a b) before = before
+returned (Err e) before = before
 
 -- 01, "Lists": after a start that returned d, lent the first numbers of the memory w
 unfoldable pub begun : Decode → Code → List Float → List Float → ℕ → Held
@@ -75,11 +74,11 @@ module _ (c : Code) (rx w : List Float) where
   unfoldable pub owed_answer : ℕ → Call → Answer
   owed_answer sum (grant g lent) = granted (owed_grant sum g lent)
   owed_answer sum (read lent out) =
-      read_out (owed_read sum lent (length out)) (after (owed_read sum lent (length out)) (word_of c (unbroken alpha c rx w sum).memory) out)
+      read_out (owed_read sum lent (length out)) (after (owed_read sum lent (length out)) (λ _. word_of c (unbroken alpha c rx w sum).memory) out)
 
   -- 01, "Lists": a read leaves the running sum, and so does a refused grant
   unfoldable pub sum_after : ℕ → Call → ℕ
-  sum_after sum (grant g lent) = after (owed_grant sum g lent) (sum + g) sum
+  sum_after sum (grant g lent) = after (owed_grant sum g lent) (λ _. sum + g) sum
   sum_after sum (read lent out) = sum
 
   -- 01, "Lists": what is owed of a list of calls, and its running sum

@@ -1,72 +1,76 @@
-// The transmitted members of a check, and how many checks a word does not meet. What `unmet_checks` requires, its callers
-// meet: `unsatisfied` here, and the decoder's crate.
-ghost use Rattle.std.specs.Prelude.{◌≡◌, true, ◌≤◌, length};
+// The transmitted members of a check, and how many checks a word does not meet.
+ghost use Rattle.std.specs.Prelude.{◌≡◌, ◌≤◌, length};
 ghost use Rattle.refusals.specs.Outcome.{outcome};
-ghost use Rattle.bits.specs.Sums.{Bits};
-ghost use Rattle.ldpc.specs.Choice.{made};
 ghost use Rattle.ldpc.specs.Code.{checks_of};
 ghost use Rattle.coder.specs.Calls.{listed, list_written, unsatisfied_of, unsatisfied_told};
 
-use ldpc::Code;
+use bits::Bits;
+use ldpc::{Code, CodeGraph, ValidCode};
 use refusals::Refusal;
 
-// How many checks a word of bits does not meet, its syndrome being written to the front of `room`.
-fn count_unmet(c: Code, word: &[u8], room: &mut [u8]) -> usize
-    requires { (made c ≡ true) × Bits word.now × (checks_of c ≤ length room.old) }
-    ensures { result ≡ unsatisfied_of c word.now }
+// How many checks a word does not meet, its syndrome being written to the front of `room`.
+fn count_unmet(g: &CodeGraph, word: Bits<'_>, room: &mut [u8]) -> usize
+    requires { checks_of g.now.code.code ≤ length room.old }
+    ensures { result ≡ unsatisfied_of g.now.code.code word.entry.bytes.now }
 {
-    let s = tables::shape_of(c.rate, c.family);
-    let n = s.m_b * c.z;
-    let edges = 3 * s.k_b + 2 * s.m_b + 1;
+    let n = g.code.checks();
     let syndrome = &mut room[..n];
-    edge_sums::row_sums(c, word, edges, syndrome);
+    edge_sums::row_sums(g, word, g.code.edges(), syndrome);
     bits::count_ones(syndrome)
 }
 
-// The same, in memory of its own: 39 rows of 324 checks are the most.
-pub fn unmet_checks(c: Code, word: &[u8]) -> usize
-    requires { (made c ≡ true) × Bits word.now }
-    ensures { result ≡ unsatisfied_of c word.now }
+// The same, in memory of its own, for at most N checks.
+fn unmet_in<const N: usize>(g: &CodeGraph, word: Bits<'_>) -> usize
+    requires { (N ≤ 12636) × (checks_of g.now.code.code ≤ N) }
+    ensures { result ≡ unsatisfied_of g.now.code.code word.entry.bytes.now }
 {
-    let mut room: [u8; 12636] = [0; 12636];
-    count_unmet(c, word, &mut room)
+    let mut room = [0; N];
+    count_unmet(g, word, &mut room)
+}
+
+// The same, in as much memory as the lift asks for, since all of it is cleared: 39 rows of 32 checks, or of 324.
+pub fn unmet_checks(code: ValidCode, word: Bits<'_>) -> usize
+    ensures { result ≡ unsatisfied_of code.code word.entry.bytes.now }
+{
+    let g = CodeGraph::new(code);
+    let z = g.code.code.z;
+    if z <= 32 {
+        unmet_in::<1248>(&g, word)
+    } else {
+        unmet_in::<12636>(&g, word)
+    }
 }
 
 // Writes the transmitted members of a check, in edge order, to the front of out, and answers how many there are.
+#[tactic(auto, unfolding(crate::specs::Calls::listed, crate::specs::Calls::list_written, ldpc::specs::Choice::if_made))]
 pub fn check_members(c: Code, check: usize, out: &mut [u32]) -> Result<usize, Refusal>
     ensures result_value { outcome result ≡ listed c check (length out.old) }
     ensures out_after { out.new ≡ list_written c check out.old }
 {
-    if !c.is_made() {
-        return Err(Refusal::Record { rate: c.rate, n_tx: c.n_tx });
-    }
-    let g = tables::graph_of(c.rate, c.family);
-    let s = g.shape;
-    let rows = g.rows;
-    let shifts = g.shifts;
-    let checks = s.m_b * c.z;
-    if checks <= check {
+    let code = c.valid()?;
+    let checks = code.checks();
+    if check >= checks {
         return Err(Refusal::NoCheck { check, checks });
     }
-    let edges = 3 * s.k_b + 2 * s.m_b + 1;
-    let n = check_lists::count_members(c, s, &rows, &shifts, check, edges);
+    let g = CodeGraph::new(code);
+    let edges = code.edges();
+    let n = check_lists::count_members(&g, check, edges);
     if out.len() < n {
-        return Err(Refusal::Output { given: out.len(), wanted: n });
+        return Err(Refusal::Output {
+            given: out.len(),
+            wanted: n,
+        });
     }
-    check_lists::write_members(c, s, &rows, &shifts, check, edges, out);
+    check_lists::write_members(&g, check, edges, out);
     Ok(n)
 }
 
 // How many checks a word of any length does not meet.
+#[tactic(auto, unfolding(crate::specs::Calls::unsatisfied_told, crate::specs::Calls::if_bits, ldpc::specs::Choice::if_made))]
 pub fn unsatisfied(c: Code, word: &[u8]) -> Result<usize, Refusal>
     ensures { outcome result ≡ unsatisfied_told c word.now }
 {
-    if !c.is_made() {
-        return Err(Refusal::Record { rate: c.rate, n_tx: c.n_tx });
-    }
-    let place = bits::first_not_bit(word);
-    if place < word.len() {
-        return Err(Refusal::NotBit { place, value: numbers::wide8(word[place]) });
-    }
-    Ok(unmet_checks(c, word))
+    let code = c.valid()?;
+    let word = Bits::new(word)?;
+    Ok(unmet_checks(code, word))
 }

@@ -1,6 +1,6 @@
 // Grants: iterations until the decisions meet every check, or the grant is spent.
-ghost use Rattle.refusals.specs.Outcome.{outcome};
 ghost use Rattle.std.specs.Prelude.{◌≡◌};
+ghost use Rattle.refusals.specs.Outcome.{outcome};
 ghost use Rattle.decoder.specs.Calls.{grant_told, grant_written};
 
 use crate::record::Decode;
@@ -9,32 +9,23 @@ use runs::Reach;
 
 impl Decode {
     // Iterates until converged or g iterations are done.
+    #[tactic(auto, unfolding(crate::specs::Calls::grant_told, crate::specs::Calls::grant_written, crate::specs::Calls::if_work, crate::specs::Calls::if_sum, crate::specs::Decoding::record_of, crate::specs::Decoding::progress_of, runs::specs::Runs::reach_of, runs::specs::Runs::reached_in, ldpc::specs::Choice::if_made))]
     pub fn grant(self, g: u16, work: &mut [f32]) -> Result<Decode, Refusal>
         ensures result_value { outcome result ≡ grant_told self g work.old }
         ensures work_after { work.new ≡ grant_written self g work.old }
     {
-        let c = self.code;
-        if !c.is_made() {
-            return Err(Refusal::Record { rate: c.rate, n_tx: c.n_tx });
-        }
-        let s = sizes::sizes_of(c);
-        let needed = channel::work_needed(c, s);
-        if work.len() < needed {
-            return Err(Refusal::Work { given: work.len(), needed });
-        }
-        let all = (self.iterations as usize) + (g as usize);
-        if 65535 < all {
-            return Err(Refusal::Iterations(all));
-        }
+        let code = self.code.valid()?;
+        refusals::work(work.len(), code.work_needed())?;
+        refusals::iterations(usize::from(self.iterations) + usize::from(g))?;
         let from = Reach {
             iterations: self.iterations,
             converged: self.converged,
         };
-        let r = runs::go_on(c, s, from, g, work);
+        let reach = runs::go_on(code, from, g, work);
         Ok(Decode {
-            code: c,
-            iterations: r.iterations,
-            converged: r.converged,
+            code: self.code,
+            iterations: reach.iterations,
+            converged: reach.converged,
         })
     }
 }

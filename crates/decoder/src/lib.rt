@@ -1,4 +1,4 @@
-// Decoding in grants: 01, "Decoding". A decode is a record that goes in and comes back by value, and the work memory that the
+// Decoding in grants. A decode is a record that goes in and comes back by value, and the work memory that the
 // caller lends with every call. Whatever a call refuses it leaves as it was. Assumes nothing.
 #![tactic(auto)]
 

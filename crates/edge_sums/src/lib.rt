@@ -3,116 +3,85 @@
 // coder meet.
 #![tactic(auto)]
 
-ghost use Rattle.std.specs.Prelude.{◌≡◌, true, ◌+◌, ◌*◌, ◌<◌, ◌≤◌, length};
+ghost use Rattle.std.specs.Prelude.{◌≡◌, ◌+◌, ◌*◌, ◌%◌, ◌<◌, ◌≤◌, length};
 ghost use Rattle.matrix.specs.Edges.{edges};
-ghost use Rattle.base_edges.specs.Edge.{graph_in, edge_of};
-ghost use Rattle.bits.specs.Sums.{Bits};
-ghost use Rattle.ldpc.specs.Choice.{made};
-ghost use Rattle.ldpc.specs.Code.{code_graph, checks_of};
-ghost use Rattle.edge_sums.specs.Sums.{PartOf, sums_of};
+ghost use Rattle.bits.specs.Sums.{Bits as AreBits};
+ghost use Rattle.ldpc.specs.Code.{checks_of};
+ghost use Rattle.edge_sums.specs.Sums.{PartOf, RowAdded, sums_of};
 
 use base_edges::Edge;
-use bits::Part;
-use ldpc::Code;
-use tables::Shape;
+use bits::Bits;
+use ldpc::CodeGraph;
 
-// The column of a code's lifted word in a transmitted one.
-fn part_of(c: Code, k_b: usize, column: usize, word: &[u8]) -> Part
-    requires { (made c ≡ true) × (k_b ≡ (code_graph c).shape.k_b) × (column < (code_graph c).shape.n_b) }
-    ensures { PartOf c word.now column result }
+// The bits that a transmitted word has of a column of the lifted one; those that it lacks are 0.
+fn column_part<'a>(g: &CodeGraph, column: usize, word: Bits<'a>) -> Bits<'a>
+    requires { column < g.now.graph.shape.n_b }
+    ensures { PartOf g.now.code.code word.entry.bytes.now column result.bytes.now }
 {
+    let c = g.code.code;
+    let k_b = g.graph.shape.k_b;
     if column < k_b {
-        return bits::clipped(column * c.z, c.z, numbers::lesser(c.k, word.len()));
+        let sent = &word.bytes[..c.k.min(word.bytes.len())];
+        return Bits {
+            bytes: bits::clipped(sent, column * c.z, c.z),
+        };
     }
-    bits::clipped(c.k + (column - k_b) * c.z, c.z, word.len())
+    Bits {
+        bytes: bits::clipped(word.bytes, c.k + (column - k_b) * c.z, c.z),
+    }
 }
 
-// Adds the bits of base edge b, whose column's part is given, to the sums over the edges before it.
-fn add_edge(c: Code, b: usize, e: Edge, word: &[u8], part: Part, sums: &mut [u8])
-    requires c_value { (made c ≡ true) × (b < edges (code_graph c)) × (e ≡ edge_of (code_graph c) b) }
-    requires bits { Bits word.now × PartOf c word.now e.column part × (sums.old ≡ sums_of c word.now b) }
-    ensures { sums.new ≡ sums_of c word.now (b + 1) }
+// Adds the bits of a base edge's column, turned by its shift, to the checks of its row.
+fn add_edge(e: Edge, z: usize, part: Bits<'_>, sums: &mut [u8])
+    requires lift { (1 ≤ z) × (z ≤ 324) × (e.shift < 512) × (length part.bytes.now ≤ z) }
+    requires row { (e.row * z + z ≤ length sums.old) × AreBits sums.old }
+    ensures { RowAdded (e.row * z) z (e.shift % z) part.entry.bytes.now sums.old sums.new }
 {
-    let z = c.z;
     let turn = base_edges::rotated(0, e.shift, z);
-    bits::add_turned(sums, e.row * z, word, part, turn, z);
+    let at = e.row * z;
+    bits::add_turned(&mut sums[at..at + z], part.bytes, turn);
 }
 
 // Adds the three edges of an information column to the sums over the columns before it.
-fn add_column<'a>(
-    c: Code,
-    s: Shape,
-    rows: &'a [u8; 153],
-    shifts: &'a [u16; 153],
-    column: usize,
-    word: &[u8],
-    sums: &mut [u8],
-)
-    requires { (made c ≡ true) × (graph_in s rows.now shifts.now ≡ code_graph c) × (column < s.k_b) × Bits word.now × (sums.old ≡ sums_of c word.now (3 * column)) }
-    ensures { sums.new ≡ sums_of c word.now (3 * (column + 1)) }
+fn add_column(g: &CodeGraph, column: usize, word: Bits<'_>, sums: &mut [u8])
+    requires { (column < g.now.graph.shape.k_b) × (sums.old ≡ sums_of g.now.code.code word.bytes.now (3 * column)) }
+    ensures { sums.new ≡ sums_of g.now.code.code word.entry.bytes.now (3 * (column + 1)) }
 {
-    let part = part_of(c, s.k_b, column, word);
-    let mut b = 3 * column;
-    let end = b + 3;
-    while b < end {
-        let e = base_edges::info_edge(s, rows, shifts, b);
-        add_edge(c, b, e, word, part, sums);
-        b += 1;
+    let part = column_part(g, column, word);
+    for b in 3 * column..3 * column + 3 {
+        let e = g.info_edge(b);
+        add_edge(e, g.code.code.z, part, sums);
     }
 }
 
 // Writes the sums over the edges of the information columns, for every check.
-fn info_sums<'a>(
-    c: Code,
-    s: Shape,
-    rows: &'a [u8; 153],
-    shifts: &'a [u16; 153],
-    word: &[u8],
-    sums: &mut [u8],
-)
-    requires { (made c ≡ true) × (graph_in s rows.now shifts.now ≡ code_graph c) × (length sums.old ≡ checks_of c) × Bits word.now }
-    ensures { sums.new ≡ sums_of c word.now (3 * s.k_b) }
+fn info_sums(g: &CodeGraph, word: Bits<'_>, sums: &mut [u8])
+    requires { length sums.old ≡ checks_of g.now.code.code }
+    ensures { sums.new ≡ sums_of g.now.code.code word.entry.bytes.now (3 * g.now.graph.shape.k_b) }
 {
-    bits::clear(sums);
-    let columns = s.k_b;
-    let mut j = 0;
-    while j < columns {
-        add_column(c, s, rows, shifts, j, word, sums);
-        j += 1;
+    sums.fill(0);
+    for column in 0..g.graph.shape.k_b {
+        add_column(g, column, word, sums);
     }
 }
 
 // Adds a base edge, of any column, to the sums over the edges before it.
-fn add_next<'a>(
-    c: Code,
-    s: Shape,
-    rows: &'a [u8; 153],
-    shifts: &'a [u16; 153],
-    b: usize,
-    word: &[u8],
-    sums: &mut [u8],
-)
-    requires { (made c ≡ true) × (graph_in s rows.now shifts.now ≡ code_graph c) × (b < edges (code_graph c)) × Bits word.now × (sums.old ≡ sums_of c word.now b) }
-    ensures { sums.new ≡ sums_of c word.now (b + 1) }
+fn add_next(g: &CodeGraph, b: usize, word: Bits<'_>, sums: &mut [u8])
+    requires { (b < edges g.now.graph) × (sums.old ≡ sums_of g.now.code.code word.bytes.now b) }
+    ensures { sums.new ≡ sums_of g.now.code.code word.entry.bytes.now (b + 1) }
 {
-    let e = base_edges::edge_at(s, rows, shifts, b);
-    let part = part_of(c, s.k_b, e.column, word);
-    add_edge(c, b, e, word, part, sums);
+    let e = g.edge(b);
+    let part = column_part(g, e.column, word);
+    add_edge(e, g.code.code.z, part, sums);
 }
 
 // Writes the sums over the first n base edges, for every check: those of the information columns, and any after them.
-pub fn row_sums(c: Code, word: &[u8], n: usize, sums: &mut [u8])
-    requires { (made c ≡ true) × (3 * (code_graph c).shape.k_b ≤ n) × (n ≤ edges (code_graph c)) × (length sums.old ≡ checks_of c) × Bits word.now }
-    ensures { sums.new ≡ sums_of c word.now n }
+pub fn row_sums(g: &CodeGraph, word: Bits<'_>, n: usize, sums: &mut [u8])
+    requires { (3 * g.now.graph.shape.k_b ≤ n) × (n ≤ edges g.now.graph) × (length sums.old ≡ checks_of g.now.code.code) }
+    ensures { sums.new ≡ sums_of g.now.code.code word.entry.bytes.now n }
 {
-    let g = tables::graph_of(c.rate, c.family);
-    let s = g.shape;
-    let rows = g.rows;
-    let shifts = g.shifts;
-    info_sums(c, s, &rows, &shifts, word, sums);
-    let mut b = 3 * s.k_b;
-    while b < n {
-        add_next(c, s, &rows, &shifts, b, word, sums);
-        b += 1;
+    info_sums(g, word, sums);
+    for b in 3 * g.graph.shape.k_b..n {
+        add_next(g, b, word, sums);
     }
 }

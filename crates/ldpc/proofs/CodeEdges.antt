@@ -2,17 +2,18 @@
 -- that is lent. Assumes nothing.
 use mathlib.Core.Path.{◌≡◌, refl, sym, subst}
 use mathlib.Core.Bool.{Bool, true, false, cond}
-use Prim.Native.Nat.{ℕ, ◌*◌, ◌-◌, ◌<◌, ◌≤◌}
+use Prim.Native.Nat.{ℕ, ◌*◌, ◌/◌, ◌-◌, ◌<◌, ◌≤◌}
 use native.Mathlib.Omega.{arith}
 use native.Mathlib.Decide.{dec_lt}
 use borrow.Author.Tests.{lt-ltb}
 use lib.Dec.{eqb}
 use Rattle.laws.proofs.Written.{get_d_tabulate}
+use Rattle.tables.specs.declared.BaseGraph.{BaseGraph}
 use Rattle.tables.specs.Graph.{graph_number, info_columns, shift_at, shape_of, graph_of}
 use Rattle.tables.proofs.Sizes.{number_lt, sizes}
 use Rattle.tables.proofs.Columns as Columns
 use Rattle.matrix.specs.Edges.{edges, edge_row, edge_column, edge_shift}
-use Rattle.matrix.proofs.Edges.{parity_shift}
+use Rattle.matrix.proofs.Edges.{parity_shift, info_column}
 use Rattle.matrix.proofs.Simple.{Simple, simple}
 use Rattle.base_edges.specs.declared.Edge.{Edge}
 use Rattle.base_edges.specs.Edge.{edges_in, edge_of}
@@ -74,3 +75,14 @@ module _ (c : Code) (b : ℕ) (h : b < edges (code_graph c)) where
         column_lt = (code_simple c).column_lt b h;
         shift_lt = shift_lt c b;
       })
+
+-- and where it lies
+pub edge_within : (c : Code) (b : ℕ) → b < edges (code_graph c)
+    → let e = edge_of (code_graph c) b in (e.row < (code_graph c).shape.m_b) × (e.column < (code_graph c).shape.n_b) × (e.shift < 512)
+unfolding edge_of
+edge_within c b h = ((code_simple c).row_lt b h, (code_simple c).column_lt b h, shift_lt c b)
+
+-- the column of an edge among the first of all
+pub info_edge_column : (g : BaseGraph) (b : ℕ) → b < 3 * g.shape.k_b → (edge_of g b).column ≡ b / 3
+unfolding edge_of
+info_edge_column g b h = info_column g b h

@@ -6,13 +6,14 @@ use mathlib.Core.List.{[], ◌∷◌}
 use mathlib.Core.Logic.{◌⊎◌, inl, inr}
 use Prim.Native.Nat.{ℕ, zero, suc, ◌+◌, ◌*◌, ◌/◌, ◌-◌, ◌<◌, ◌≤◌, min, max}
 use native.Mathlib.Omega.{arith}
-use native.Mathlib.Nat.{mul-le-mul, mul-le-mul_left, mul_comm, mul-add}
+use native.Mathlib.Nat.{mul-le-mul, mul-le-mul_left, mul_comm, mul-add, add-mul}
 use native.Mathlib.Decide.{dec_lt, ℕ_discrete}
 use borrow.Author.Tests.{ltb-true, ltb-false, eqb-true}
 use lib.Dec.{eqb}
 use lib.ListN.{get_or}
 use Rattle.refusals.specs.Outcome.{Outcome, refused}
 use Rattle.tables.specs.declared.Shape.{Shape}
+use Rattle.tables.specs.declared.BaseGraph.{BaseGraph}
 use Rattle.tables.specs.Graph.{graph_number, base_columns, shape_of, graph_of, IsTableShape}
 use Rattle.tables.proofs.Sizes.{Shaped, shaped}
 use Rattle.matrix.specs.Edges.{edges}
@@ -248,3 +249,19 @@ known c m s e =
 -- the bounds that a valid code carries
 pub bounds : (c : Code) → made c ≡ true → (1 ≤ c.z) × (c.z ≤ 324) × (1 ≤ c.k) × (c.k ≤ c.n_tx) × (c.n_tx ≤ 19440)
 bounds c m = let S = sized c m in (S.lift, S.lift_most, S.info, omega (arith, S.parity), S.length_most)
+
+-- where the parity columns begin: not before the information ends, and what is sent of parity ends the word
+pub info_most : (c : Code) → made c ≡ true → c.k ≤ (code_graph c).shape.k_b * c.z
+info_most c m = (sized c m).info_most
+
+pub parity_is : (c : Code) → made c ≡ true → (code_graph c).shape.k_b * c.z + (c.n_tx - c.k) ≡ (code_graph c).shape.n_b * c.z
+parity_is c m =
+    let S = sized c m in
+    let s = (code_graph c).shape in
+    omega (arith, S.parity, add-mul s.k_b s.m_b c.z, ap (λ (x : ℕ). x * c.z) S.shape.columns)
+-- the information and the parity columns of a code's graph fill the block, and the information fits its columns
+pub parity_fills : (c : Code) → made c ≡ true → (g : BaseGraph) → g ≡ code_graph c → c.k + g.shape.m_b * c.z ≡ c.n_tx
+parity_fills c m g e = rw e (sized c m).parity
+
+pub info_fits : (c : Code) → made c ≡ true → (g : BaseGraph) → g ≡ code_graph c → c.k ≤ g.shape.k_b * c.z
+info_fits c m g e = rw e (sized c m).info_most

@@ -4,7 +4,9 @@
 
 mod choice;
 mod getters;
+mod graph;
 mod valid;
 
 pub use choice::Code;
+pub use graph::CodeGraph;
 pub use valid::ValidCode;

@@ -1,10 +1,10 @@
 // A code that Choice gives, and what is computed from it: its graph's shape, the graph, and the sizes that the calls go by.
-ghost use Rattle.std.specs.Prelude.{◌≡◌, true, false, IfOk, IfErr, ◌+◌, ◌*◌, ◌≤◌};
+ghost use Rattle.std.specs.Prelude.{◌≡◌, true, false, IfOk, IfErr, ◌+◌, ◌*◌, ◌-◌, ◌≤◌};
 ghost use Rattle.refusals.specs.declared.Refusal.TheVariants.{Record};
 ghost use Rattle.tables.specs.Graph.{IsTableShape};
 ghost use Rattle.matrix.specs.Edges.{edges};
 ghost use Rattle.ldpc.specs.Choice.{made};
-ghost use Rattle.ldpc.specs.Code.{code_graph, checks_of, work_of};
+ghost use Rattle.ldpc.specs.Code.{code_graph, info_end, checks_of, work_of};
 
 use crate::choice::Code;
 use refusals::Refusal;
@@ -61,6 +61,17 @@ impl ValidCode {
     {
         let s = self.shape();
         3 * s.k_b + 2 * s.m_b + 1
+    }
+
+    // Where the parity columns begin in the lifted word; the information ends before.
+    #[tactic(auto, using(crate::proofs::Made::info_most, crate::proofs::Made::parity_is), unfolding(crate::specs::Code::info_end))]
+    pub fn info_end(self) -> usize
+        ensures value { result ≡ info_end self.code }
+        ensures after_information { self.code.k ≤ result }
+        ensures before_parity { result + (self.code.n_tx - self.code.k) ≡ (code_graph self.code).shape.n_b * self.code.z }
+        ensures most { result ≤ 16524 }
+    {
+        self.shape().k_b * self.code.z
     }
 
     // How many parity checks there are.

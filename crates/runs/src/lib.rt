@@ -1,84 +1,71 @@
 // A run of iterations: until the decisions meet every check, or the grant is spent; and the unbroken decode, which is such a run
-// from a fresh start. 01, "Grant", "Unbroken decode".
-// What these functions require, their callers in this and the decoder's crate meet.
+// from a fresh start.
 #![tactic(auto)]
 
-ghost use Rattle.std.specs.Prelude.{◌≡◌, false, ◌+◌, ◌≤◌, length};
-ghost use Rattle.sizes.specs.Lent.{Ready, Rows, Edges, Sorted};
-ghost use Rattle.runs.specs.Runs.{alpha, unbroken, reach_of, Reached};
+ghost use Rattle.std.specs.Prelude.{◌≡◌, ◌+◌, ◌≤◌, length};
+ghost use Rattle.ldpc.specs.Code.{work_of};
+ghost use Rattle.runs.specs.Runs.{alpha, iterated, unbroken, reach_of, reached_in};
 
-use ldpc::Code;
-use sizes::Sizes;
+use ldpc::{Code, ValidCode};
+use lists::Lists;
+use sizes::Lifted;
 
 // How far a decode has got: the iterations done, and whether the last of them converged.
-#[derive(Clone, Copy)]
+#[derive(Clone, Copy, Debug, PartialEq, Eq)]
 pub struct Reach {
     pub iterations: u16,
     pub converged: bool,
 }
 
-// At most g iterations of a decode that has not converged, given the lists of the call.
-fn iterations(
-    c: Code,
-    s: Sizes,
-    from: Reach,
-    g: u16,
-    order: &[u8],
-    start: &[u8],
-    column: &[u8],
-    turn: &[u16],
-    sorted: &[u8],
-    work: &mut [f32],
-) -> Reach
-    requires ready { Ready c s (length work.old) × Rows c order.now start.now × Edges c column.now turn.now × Sorted c sorted.now }
-    requires converged_value { (from.converged ≡ false) × (from.iterations + g ≤ 65535) }
-    ensures { Reached c from g work.old result work.new }
+// At most g iterations. A decode that has converged stays as it is.
+fn iterations(l: &Lifted, from: Reach, g: u16, work: &mut [f32]) -> Reach
+    requires sum { from.iterations + g ≤ 65535 }
+    requires room { work_of l.now.code.code ≤ length work.old }
+    ensures value { result ≡ reach_of (iterated alpha l.now.code.code g (reached_in from work.old)) }
+    ensures work_after { work.new ≡ (iterated alpha l.now.code.code g (reached_in from work.old)).memory }
 {
-    let done = from.iterations;
-    let mut i: u16 = 0;
-    while i < g {
-        minsum::iterate(c, s, order, start, turn, sorted, Code::ALPHA, work);
-        i += 1;
-        if convergence::converged(c, s, order, start, column, turn, work) {
-            return Reach {
-                iterations: done + i,
-                converged: true,
-            };
+    let mut reach = from;
+    'iterations: for _ in 0..g {
+        if reach.converged {
+            return reach;
         }
+        minsum::iterate(l, Code::ALPHA, work);
+        reach = Reach {
+            iterations: reach.iterations + 1,
+            converged: convergence::converged(l, work),
+        };
     }
-    Reach {
-        iterations: done + g,
-        converged: false,
-    }
+    reach
 }
 
-// At most g iterations. A decode that has converged stays as it is.
-pub fn go_on(c: Code, s: Sizes, from: Reach, g: u16, work: &mut [f32]) -> Reach
-    requires { Ready c s (length work.old) × (from.iterations + g ≤ 65535) }
-    ensures { Reached c from g work.old result work.new }
+// The same of a code, by lists made here.
+pub fn go_on(code: ValidCode, from: Reach, g: u16, work: &mut [f32]) -> Reach
+    requires sum { from.iterations + g ≤ 65535 }
+    requires room { work_of code.code ≤ length work.old }
+    ensures value { result ≡ reach_of (iterated alpha code.code g (reached_in from work.old)) }
+    ensures work_after { work.new ≡ (iterated alpha code.code g (reached_in from work.old)).memory }
 {
+    // no lists are made for a decode that has converged
     if from.converged {
         return from;
     }
-    let l = lists::lists_of(c);
-    let order = l.order;
-    let start = l.start;
-    let column = l.column;
-    let turn = l.turn;
-    let sorted = l.sorted;
-    iterations(c, s, from, g, &order, &start, &column, &turn, &sorted, work)
+    let mut lists = Lists::blank();
+    lists::write_lists(code, &mut lists);
+    iterations(&Lifted::new(code, &lists), from, g, work)
 }
 
 // Start, and at most `limit` iterations: the unbroken decode.
-pub fn decode_unbroken(c: Code, s: Sizes, rx: &[f32], limit: u16, work: &mut [f32]) -> Reach
-    requires { Ready c s (length work.old) × (length rx.now ≡ c.n_tx) }
-    ensures value { result ≡ reach_of (unbroken alpha c rx.now work.old limit) }
-    ensures work_after { work.new ≡ (unbroken alpha c rx.now work.old limit).memory }
+#[tactic(auto, unfolding(crate::specs::Runs::unbroken, crate::specs::Runs::reached_in))]
+pub fn decode_unbroken(code: ValidCode, rx: &[f32], limit: u16, work: &mut [f32]) -> Reach
+    requires given { length rx.now ≡ code.code.n_tx }
+    requires room { work_of code.code ≤ length work.old }
+    ensures value { result ≡ reach_of (unbroken alpha code.code rx.now work.old limit) }
+    ensures work_after { work.new ≡ (unbroken alpha code.code rx.now work.old limit).memory }
 {
-    channel::begin(c, s, rx, work);
+    channel::begin(code, rx, work);
     let fresh = Reach {
         iterations: 0,
         converged: false,
     };
-    go_on(c, s, fresh, limit, work)
+    go_on(code, fresh, limit, work)
 }

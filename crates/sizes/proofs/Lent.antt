@@ -1,7 +1,8 @@
--- What the passes know of what they are lent: sizes in numbers, a base edge's column and turn, the list of a row. Assumes nothing.
+-- What the passes know of what they go by: sizes in numbers, a base edge's column and turn, the list of a row. Assumes nothing.
 use mathlib.Core.Path.{◌≡◌, refl, sym, ap, subst, ◌∙◌}
+use mathlib.Core.Bool.{true}
 use mathlib.Core.List.{List}
-use Prim.Native.Nat.{ℕ, suc, ◌+◌, ◌*◌, ◌%◌, ◌-◌, ◌<◌, ◌≤◌}
+use Prim.Native.Nat.{ℕ, suc, ◌+◌, ◌*◌, ◌%◌, ◌-◌, ◌<◌, ◌≤◌, min}
 use native.Mathlib.Omega.{arith}
 use native.Mathlib.Numerals.{add-one}
 use native.Mathlib.Nat.{mul-le-mul, mod-lt}
@@ -9,19 +10,25 @@ use lib.ListN.{length, take, drop, get_or, length-drop}
 use lib.Seq.{ext_get_or, get_or-take, get_or-drop, length-take-le}
 use Rattle.laws.proofs.Slots.{row_le}
 use Rattle.laws.proofs.Written.{length_tabulate, get_d_tabulate}
+use Rattle.tables.specs.declared.BaseGraph.{BaseGraph}
 use Rattle.tables.proofs.Sizes.{Shaped}
-use Rattle.matrix.specs.Edges.{edges, edge_column, edge_shift, row_edges, edges_by_row}
+use Rattle.matrix.specs.Edges.{edges, edge_column, edge_shift, row_edges, edges_by_row, ColumnList}
 use Rattle.matrix.proofs.ByRow.{row_entry, length_next, by_row_at, by_row_most}
 use Rattle.messages.specs.Memory.{bits_of, slots_of, to_checks_at, to_bits_at, needed}
 use Rattle.ldpc.specs.declared.choice.Code.{Code}
-use Rattle.ldpc.specs.Code.{code_graph}
-use Rattle.ldpc.proofs.Made.{sized}
+use Rattle.ldpc.specs.declared.valid.ValidCode.{ValidCode}
+use Rattle.ldpc.specs.Choice.{made}
+use Rattle.ldpc.specs.Code.{code_graph, work_of}
+use Rattle.ldpc.proofs.Made.{sized as made_sizes}
 use Rattle.ldpc.proofs.CodeEdges.{code_simple}
-use Rattle.lists.specs.Lists.{order_of, starts_of, per_edge}
+use Rattle.lists.specs.Lists.{order_of, starts_of, per_edge, lists_of}
+use Rattle.lists.specs.Sorting.{sorted_of, column_start}
 use Rattle.lists.proofs.Filled.{per_edge_at}
-use Rattle.sizes.specs.declared.Sizes.{Sizes}
+use Rattle.lists.proofs.ColumnSorted.{column_sorted}
+use Rattle.sizes.specs.declared.sizes.Sizes.{Sizes}
+use Rattle.sizes.specs.declared.lifted.Lifted.{Lifted}
 use Rattle.slots.specs.Row.{Within}
-use Rattle.sizes.specs.Lent.{sizes_of, Ready, Rows, Edges}
+use Rattle.sizes.specs.Sizes.{sizes_of}
 
 pub record Known (c : Code) (s : Sizes) (len : ℕ) : Type 0 where
   pub lift : 1 ≤ c.z
@@ -38,15 +45,16 @@ pub record Known (c : Code) (s : Sizes) (len : ℕ) : Type 0 where
   pub to_checks : 2 * s.bits ≡ to_checks_at (code_graph c) c.z
   pub to_bits : 2 * s.bits + s.slots ≡ to_bits_at (code_graph c) c.z
   pub room : 2 * s.bits + 2 * s.slots ≤ len
+  pub all : needed (code_graph c) c.z ≤ len
   pub shape : Shaped (code_graph c).shape
 
-pub known : (c : Code) (s : Sizes) (len : ℕ) → Ready c s len → Known c s len
-unfolding sizes_of bits_of slots_of to_checks_at to_bits_at needed edges
-known c s len R =
-    let S = sized c R.is_made in
+known_by : (c : Code) (s : Sizes) (len : ℕ) → made c ≡ true → s ≡ sizes_of c → work_of c ≤ len → Known c s len
+unfolding sizes_of bits_of slots_of to_checks_at to_bits_at needed edges work_of
+known_by c s len m e room =
+    let S = made_sizes c m in
     let g = (code_graph c).shape in
-    let e : 3 * g.k_b + 2 * g.m_b + 1 ≤ 172 = omega (arith, S.shape) in
-    subst (λ x. Known c x len) (sym R.sizes)
+    let l : 3 * g.k_b + 2 * g.m_b + 1 ≤ 172 = omega (arith, S.shape) in
+    subst (λ x. Known c x len) (sym e)
     (record {
       lift = S.lift;
       lift_most = S.lift_most;
@@ -54,141 +62,198 @@ known c s len R =
       info_is = refl;
       rows_most = S.shape.rows_most;
       edges_is = refl;
-      edges_most = e;
+      edges_most = l;
       bits_is = refl;
       bits_most = mul-le-mul S.shape.columns_most S.lift_most;
       slots_is = refl;
-      slots_most = mul-le-mul e S.lift_most;
+      slots_most = mul-le-mul l S.lift_most;
       to_checks = refl;
       to_bits = refl;
-      room = R.room;
+      room = room;
+      all = room;
       shape = S.shape;
     })
 
+-- of a valid code's sizes
+pub sizes_known : (v : ValidCode) (s : Sizes) (len : ℕ) → s ≡ sizes_of v.code → work_of v.code ≤ len → Known v.code s len
+sizes_known v s len e room = known_by v.code s len v.made e room
+
+pub known : (l : Lifted) (len : ℕ) → work_of l.code.code ≤ len → Known l.code.code l.sizes len
+known l len room = known_by l.code.code l.sizes len l.code.made l.sized room
+
+-- the work memory holds two regions of N numbers and two of E
+pub room : (l : Lifted) (len : ℕ) → work_of l.code.code ≤ len → 2 * l.sizes.bits + 2 * l.sizes.slots ≤ len
+room l len h = (known l len h).room
+
 -- base edge b in the lists
-pub record EdgeIn (c : Code) (s : Sizes) (column turn : List ℕ) (b : ℕ) : Type 0 where
-  pub column_there : b < length column
-  pub turn_there : b < length turn
-  pub column_is : get_or column b 0 ≡ edge_column (code_graph c) b
-  pub column_lt : edge_column (code_graph c) b < (code_graph c).shape.n_b
-  pub turn_is : get_or turn b 0 ≡ edge_shift (code_graph c) b % c.z
-  pub turn_lt : get_or turn b 0 < c.z
-  pub column_end : get_or column b 0 * c.z + c.z ≤ s.bits
-  pub slot_end : b * c.z + c.z ≤ s.slots
+pub record EdgeIn (l : Lifted) (b : ℕ) : Type 0 where
+  pub column_there : b < length l.lists.now.column
+  pub turn_there : b < length l.lists.now.turn
+  pub column_is : get_or l.lists.now.column b 0 ≡ edge_column (code_graph l.code.code) b
+  pub column_lt : edge_column (code_graph l.code.code) b < (code_graph l.code.code).shape.n_b
+  pub turn_is : get_or l.lists.now.turn b 0 ≡ edge_shift (code_graph l.code.code) b % l.code.code.z
+  pub turn_lt : get_or l.lists.now.turn b 0 < l.code.code.z
+  pub column_end : get_or l.lists.now.column b 0 * l.code.code.z + l.code.code.z ≤ l.sizes.bits
+  pub slot_end : b * l.code.code.z + l.code.code.z ≤ l.sizes.slots
 
-module _ (c : Code) (s : Sizes) (len : ℕ) (K : Known c s len) where
-  pub edge_at : (f : ℕ → ℕ) (l : List ℕ) → l ≡ per_edge (code_graph c) f → (b : ℕ) → b < edges (code_graph c) → get_or l b 0 ≡ f b
-  edge_at f l e b h = ap (λ x. get_or x b 0) e ∙ per_edge_at (code_graph c) f b h (omega (arith, K.edges_most))
+-- a list by edge, and its entry b
+per_edge_long : (g : BaseGraph) (f : ℕ → ℕ) (l : List ℕ) → l ≡ per_edge g f → length l ≡ 172
+unfolding per_edge
+per_edge_long g f l e = ap length e ∙ length_tabulate _ 172
 
-  pub per_edge_long : (f : ℕ → ℕ) (l : List ℕ) → l ≡ per_edge (code_graph c) f → length l ≡ 172
-  unfolding per_edge
-  per_edge_long f l e = ap length e ∙ length_tabulate _ 172
+edge_at : (g : BaseGraph) (f : ℕ → ℕ) (l : List ℕ) → l ≡ per_edge g f → edges g ≤ 172 → (b : ℕ) → b < edges g → get_or l b 0 ≡ f b
+edge_at g f l e most b h = ap (λ x. get_or x b 0) e ∙ per_edge_at g f b h (omega arith)
 
-  pub edge_in : (column turn : List ℕ) → Edges c column turn → (b : ℕ) → b < edges (code_graph c) → EdgeIn c s column turn b
+module _ (l : Lifted) where
+  abbrev c : Code
+  c = l.code.code
+
+  abbrev g : BaseGraph
+  g = code_graph c
+
+  K : Known c l.sizes (work_of l.code.code)
+  K = known l (work_of l.code.code) (omega arith)
+
+  column_list : l.lists.now.column ≡ per_edge g (edge_column g)
+  unfolding lists_of
+  column_list = ap (λ x. x.column) l.listed
+
+  pub turn_list : l.lists.now.turn ≡ per_edge (code_graph l.code.code) (λ b. edge_shift (code_graph l.code.code) b % l.code.code.z)
+  unfolding lists_of
+  turn_list = ap (λ x. x.turn) l.listed
+
+  pub turn_long : length l.lists.now.turn ≡ 172
+  turn_long = per_edge_long g _ _ turn_list
+
+  pub turn_at : (b : ℕ) → b < edges (code_graph l.code.code) → get_or l.lists.now.turn b 0 ≡ edge_shift (code_graph l.code.code) b % l.code.code.z
+  turn_at b h = edge_at g _ _ turn_list K.edges_most b h
+
+  pub edge_in : (b : ℕ) → b < edges (code_graph l.code.code) → EdgeIn l b
   unfolding bits_of slots_of
-  edge_in column turn (p, q) b h =
-      let column_is = edge_at _ column p b h in
-      let turn_is = edge_at _ turn q b h in
+  edge_in b h =
+      let column_is = edge_at g _ _ column_list K.edges_most b h in
+      let turn_is = turn_at b h in
       let column_lt = (code_simple c).column_lt b h in
       record {
-        column_there = omega (arith, per_edge_long _ column p, K.edges_most);
-        turn_there = omega (arith, per_edge_long _ turn q, K.edges_most);
+        column_there = omega (arith, per_edge_long g _ _ column_list, K.edges_most);
+        turn_there = omega (arith, turn_long, K.edges_most);
         column_is = column_is;
         column_lt = column_lt;
         turn_is = turn_is;
-        turn_lt = rw turn_is (mod-lt (edge_shift (code_graph c) b) K.lift);
-        column_end = rw (column_is, K.bits_is) (row_le c.z column_lt);
-        slot_end = rw K.slots_is (row_le c.z h);
+        turn_lt = rw turn_is (mod-lt (edge_shift g b) K.lift);
+        column_end = subst (λ (x : ℕ). x * c.z + c.z ≤ l.sizes.bits) (sym column_is)
+            (subst (λ (x : ℕ). edge_column g b * c.z + c.z ≤ x) (sym K.bits_is) (row_le c.z column_lt));
+        slot_end = subst (λ (x : ℕ). b * c.z + c.z ≤ x) (sym K.slots_is) (row_le c.z h);
       }
 
--- the base edges row after row
-module _ (c : Code) (order : List ℕ) (is : order ≡ order_of (code_graph c)) where
-  pub order_long : length order ≡ 172
-  unfolding order_of
-  order_long = ap length is ∙ length_tabulate _ 172
+  -- the base edges row after row
+  order_is : l.lists.now.order ≡ order_of g
+  unfolding lists_of
+  order_is = ap (λ x. x.order) l.listed
 
-  pub order_at : (i : ℕ) → i < 172 → get_or order i 0 ≡ get_or (edges_by_row (code_graph c) (code_graph c).shape.m_b) i 0
+  start_is : l.lists.now.start ≡ starts_of g
+  unfolding lists_of
+  start_is = ap (λ x. x.start) l.listed
+
+  pub order_long : length l.lists.now.order ≡ 172
   unfolding order_of
-  order_at i h = ap (λ x. get_or x i 0) is ∙ get_d_tabulate 0 _ 172 i h
+  order_long = ap length order_is ∙ length_tabulate _ 172
+
+  order_at : (i : ℕ) → i < 172 → get_or l.lists.now.order i 0 ≡ get_or (edges_by_row g g.shape.m_b) i 0
+  unfolding order_of
+  order_at i h = ap (λ x. get_or x i 0) order_is ∙ get_d_tabulate 0 _ 172 i h
+
+  start_at : (r : ℕ) → r < 40 → get_or l.lists.now.start r 0 ≡ length (edges_by_row g r)
+  unfolding starts_of
+  start_at r h = ap (λ x. get_or x r 0) start_is ∙ get_d_tabulate 0 _ 40 r h
+
+  pub start_long : length l.lists.now.start ≡ 40
+  unfolding starts_of
+  start_long = ap length start_is ∙ length_tabulate _ 40
+
+  sorted_is : l.lists.now.sorted ≡ (lists_of c).sorted
+  sorted_is = ap (λ x. x.sorted) l.listed
+
+  pub sorted_long : length l.lists.now.sorted ≡ 172
+  unfolding lists_of sorted_of
+  sorted_long = ap length sorted_is ∙ length_tabulate _ 172
 
 -- the list of row r: a part of the order
-pub record RowIn (c : Code) (s : Sizes) (order start : List ℕ) (r : ℕ) : Type 0 where
-  pub first_there : r < length start
-  pub next_there : r + 1 < length start
-  pub rises : get_or start r 0 ≤ get_or start (r + 1) 0
-  pub ends : get_or start (r + 1) 0 ≤ length order
-  pub part : take (get_or start (r + 1) 0 - get_or start r 0) (drop (get_or start r 0) order) ≡ row_edges (code_graph c) r
-  pub within : (i : ℕ) → i < length (row_edges (code_graph c) r)
-      → (get_or (row_edges (code_graph c) r) i 0 < edges (code_graph c)) × (get_or (row_edges (code_graph c) r) i 0 * c.z + c.z ≤ s.slots)
+module _ (l : Lifted) (r : ℕ) (below : r < l.sizes.rows) where
+  abbrev lo : ℕ
+  lo = length (edges_by_row (g l) r)
 
-module _ (c : Code) (s : Sizes) (len : ℕ) (K : Known c s len) (order start : List ℕ) (L : Rows c order start) where
-  start_at_lem : (r : ℕ) → r < 40 → get_or start r 0 ≡ length (edges_by_row (code_graph c) r)
-  unfolding starts_of
-  start_at_lem r h = ap (λ x. get_or x r 0) L.1 ∙ get_d_tabulate 0 _ 40 r h
+  abbrev n : ℕ
+  n = length (row_edges (g l) r)
 
-  start_long : length start ≡ 40
-  unfolding starts_of
-  start_long = ap length L.1 ∙ length_tabulate _ 40
+  row_begins : get_or l.lists.now.start r 0 ≡ lo
+  row_begins = start_at l r (omega (arith, l.columns))
 
-  pub row_in : (r : ℕ) → r < (code_graph c).shape.m_b → RowIn c s order start r
-  unfolding slots_of
-  row_in r h =
-      let g = code_graph c in
-      let lo = length (edges_by_row g r) in
-      let n = length (row_edges g r) in
-      let e : get_or start r 0 ≡ lo = start_at_lem r (omega (arith, K.rows_most)) in
-      let e' : get_or start (r + 1) 0 ≡ lo + n = start_at_lem (r + 1) (omega (arith, K.rows_most)) ∙ rw add-one (length_next g r) in
-      let most : lo + n ≤ 172 = omega (arith, by_row_most g (suc r), length_next g r, K.edges_most) in
-      let short : n ≡ get_or start (r + 1) 0 - get_or start r 0 = omega (arith, e, e') in
-      record {
-        first_there = omega (arith, start_long, K.rows_most);
-        next_there = omega (arith, start_long, K.rows_most);
-        rises = omega (arith, e, e');
-        ends = omega (arith, e', most, order_long c order L.0);
-        part = subst (λ (x : ℕ). take x (drop (get_or start r 0) order) ≡ row_edges g r) short
-            (subst (λ (x : ℕ). take n (drop x order) ≡ row_edges g r) (sym e) (part_is r h most));
-        within = λ i k.
-            let b_lt = (row_entry g r i k).edge_lt in
-            (b_lt, rw K.slots_is (row_le c.z b_lt));
-      }
-    where
-      part_is : (r : ℕ) → r < (code_graph c).shape.m_b
-          → length (edges_by_row (code_graph c) r) + length (row_edges (code_graph c) r) ≤ 172
-          → take (length (row_edges (code_graph c) r)) (drop (length (edges_by_row (code_graph c) r)) order) ≡ row_edges (code_graph c) r
-      part_is r h most =
-          let g = code_graph c in
-          let lo = length (edges_by_row g r) in
-          let n = length (row_edges g r) in
-          let long : length (take n (drop lo order)) ≡ n
-          = length-take-le n (drop lo order) (omega (arith, length-drop lo order, order_long c order L.0, most)) in
-          ext_get_or 0 (take n (drop lo order)) (row_edges g r) long
-          (λ i l.
-          let k : i < n = omega (arith, long) in
-          get_or-take n (drop lo order) i 0 k
-          ∙ get_or-drop lo order i 0
-          ∙ order_at c order L.0 (lo + i) (omega arith)
-          ∙ by_row_at g g.shape.m_b r i h k)
+  row_stops : get_or l.lists.now.start (r + 1) 0 ≡ lo + n
+  row_stops = start_at l (r + 1) (omega (arith, l.columns)) ∙ rw add-one (length_next (g l) r)
+
+  row_most : lo + n ≤ 172
+  row_most = omega (arith, by_row_most (g l) (suc r), length_next (g l) r, (K l).edges_most)
+
+  pub row_rises : get_or l.lists.now.start r 0 ≤ get_or l.lists.now.start (r + 1) 0
+  row_rises = omega (arith, row_begins, row_stops)
+
+  pub row_ends : get_or l.lists.now.start (r + 1) 0 ≤ 172
+  row_ends = omega (arith, row_stops, row_most)
+
+  part_long : length (take n (drop lo l.lists.now.order)) ≡ n
+  part_long = length-take-le n (drop lo l.lists.now.order) (omega (arith, length-drop lo l.lists.now.order, order_long l, row_most))
+
+  part_is : take n (drop lo l.lists.now.order) ≡ row_edges (g l) r
+  part_is =
+      ext_get_or 0 (take n (drop lo l.lists.now.order)) (row_edges (g l) r) part_long
+      (λ i q.
+      let k : i < n = omega (arith, part_long) in
+      get_or-take n (drop lo l.lists.now.order) i 0 k
+      ∙ get_or-drop lo l.lists.now.order i 0
+      ∙ order_at l (lo + i) (omega (arith, row_most))
+      ∙ by_row_at (g l) (g l).shape.m_b r i (omega (arith, (K l).rows_is)) k)
+
+  pub row_part : take (get_or l.lists.now.start (r + 1) 0 - get_or l.lists.now.start r 0) (drop (get_or l.lists.now.start r 0) l.lists.now.order)
+      ≡ row_edges (code_graph l.code.code) r
+  row_part =
+      let short : n ≡ get_or l.lists.now.start (r + 1) 0 - get_or l.lists.now.start r 0 = omega (arith, row_begins, row_stops) in
+      subst (λ (x : ℕ). take x (drop (get_or l.lists.now.start r 0) l.lists.now.order) ≡ row_edges (g l) r) short
+      (subst (λ (x : ℕ). take n (drop x l.lists.now.order) ≡ row_edges (g l) r) (sym row_begins) part_is)
+
+-- the list of column v: a part of those in rising row
+pub column_part : (l : Lifted) (v from end : ℕ) → v < l.sizes.info + l.sizes.rows → from ≡ min (3 * v) (l.sizes.info + 2 * v + 1)
+    → end ≡ min (3 * v + 3) (l.sizes.info + 2 * v + 3) → ColumnList (code_graph l.code.code) v (take (end - from) (drop from l.lists.now.sorted))
+unfolding column_start
+column_part l v from end h e k =
+    let k_b = (g l).shape.k_b in
+    let a : column_start k_b v ≡ from = omega (arith, (K l).info_is) in
+    let b : column_start k_b (v + 1) - column_start k_b v ≡ end - from = omega (arith, (K l).info_is) in
+    subst (λ (x : List ℕ). ColumnList (g l) v (take (end - from) (drop from x))) (sym (sorted_is l))
+    (subst (λ (x : ℕ). ColumnList (g l) v (take (end - from) (drop x (lists_of (c l)).sorted))) a
+    (subst (λ (x : ℕ). ColumnList (g l) v (take x (drop (column_start k_b v) (lists_of (c l)).sorted))) b
+    (column_sorted (c l) l.code.made v (omega (arith, (K l).info_is, (K l).rows_is)))))
+
+-- an edge of a row, and its last slot
+pub row_edge_lt : (l : Lifted) (r i : ℕ) → i < length (row_edges (code_graph l.code.code) r)
+    → get_or (row_edges (code_graph l.code.code) r) i 0 < edges (code_graph l.code.code)
+row_edge_lt l r i h = (row_entry (code_graph l.code.code) r i h).edge_lt
+
+row_slot_end : (l : Lifted) (r i : ℕ) → i < length (row_edges (code_graph l.code.code) r)
+    → get_or (row_edges (code_graph l.code.code) r) i 0 * l.code.code.z + l.code.code.z ≤ l.sizes.slots
+row_slot_end l r i h = (edge_in l _ (row_edge_lt l r i h)).slot_end
 
 -- what a row's checks ask of their list
-pub part_of : (c : Code) (s : Sizes) (order start : List ℕ) (r lo hi : ℕ) → RowIn c s order start r → lo ≡ get_or start r 0 → hi ≡ get_or start (r + 1) 0
-    → take (hi - lo) (drop lo order) ≡ row_edges (code_graph c) r
-part_of c s order start r lo hi R e e' =
-    subst (λ (x : ℕ). take (hi - x) (drop x order) ≡ row_edges (code_graph c) r) (sym e)
-    (subst (λ (x : ℕ). take (x - get_or start r 0) (drop (get_or start r 0) order) ≡ row_edges (code_graph c) r) (sym e') R.part)
-
-pub row_asked : (c : Code) (s : Sizes) (len : ℕ) (order start : List ℕ) (r : ℕ) (l : List ℕ) → Known c s len → RowIn c s order start r
-    → l ≡ row_edges (code_graph c) r
-    → (0 < c.z) × (c.z ≤ 324) × Within c.z (2 * s.bits) (2 * s.bits + s.slots) l × Within c.z (2 * s.bits + s.slots) len l
-row_asked c s len order start r l K R e =
-    let z = c.z in
-    let g = code_graph c in
-    let to = 2 * s.bits + s.slots in (
-      K.lift,
-      K.lift_most,
-      subst (Within z (2 * s.bits) to) (sym e) (λ i h. omega (arith, (R.within i h).1)),
-      subst (Within z to len) (sym e) (λ i h. omega (arith, (R.within i h).1, K.room)),
+pub row_asked : (l : Lifted) (len r : ℕ) (part : List ℕ) → work_of l.code.code ≤ len → part ≡ row_edges (code_graph l.code.code) r
+    → (0 < l.code.code.z) × (l.code.code.z ≤ 324) × Within l.code.code.z (2 * l.sizes.bits) (2 * l.sizes.bits + l.sizes.slots) part
+    × Within l.code.code.z (2 * l.sizes.bits + l.sizes.slots) len part
+row_asked l len r part room e =
+    let S = known l len room in
+    let z = l.code.code.z in
+    let g = code_graph l.code.code in
+    let to = 2 * l.sizes.bits + l.sizes.slots in (
+      S.lift,
+      S.lift_most,
+      subst (Within z (2 * l.sizes.bits) to) (sym e) (λ i h. omega (arith, row_slot_end l r i h)),
+      subst (Within z to len) (sym e) (λ i h. omega (arith, row_slot_end l r i h, S.room)),
     )
-
--- a memory of the same length is ready too
-pub ready_still : {c : Code} {s : Sizes} {len len' : ℕ} → Ready c s len → len' ≡ len → Ready c s len'
-ready_still {c} {s} R e = subst (Ready c s) (sym e) R

@@ -1,2 +1,2 @@
--- What every pass is lent. Assumes nothing.
-pub mod Lent
+-- What every pass goes by. Assumes nothing.
+pub mod Sizes

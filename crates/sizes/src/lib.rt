@@ -1,33 +1,72 @@
-// The sizes that every pass goes by, taken once a call. `sizes_of` requires a code that Choice gives; its callers meet that.
+// What every pass of a call goes by: the code, its sizes and its lists, taken once.
 #![tactic(auto)]
 
-ghost use Rattle.std.specs.Prelude.{◌≡◌, true};
-ghost use Rattle.ldpc.specs.Choice.{made};
-ghost use Rattle.sizes.specs.Lent.{sizes_of};
+mod lifted;
+mod sizes;
 
-use ldpc::Code;
+ghost use Rattle.std.specs.Prelude.{◌≡◌, ◌+◌, ◌<◌, ◌≤◌};
+ghost use Rattle.matrix.specs.Edges.{row_edges, ColumnList};
+ghost use Rattle.ldpc.specs.Code.{code_graph};
+ghost use Rattle.lists.specs.Lists.{lists_of};
+ghost use Rattle.sizes.specs.Sizes.{sizes_of};
 
-// Base rows, information columns (k_b), base edges, the bits of a lifted word (N) and the slots of its edges (E).
-#[derive(Clone, Copy)]
-pub struct Sizes {
-    pub rows: usize,
-    pub info: usize,
-    pub edges: usize,
-    pub bits: usize,
-    pub slots: usize,
-}
+use ldpc::ValidCode;
+pub use lifted::Lifted;
+use lists::Lists;
+pub use sizes::Sizes;
 
-pub fn sizes_of(c: Code) -> Sizes
-    requires { made c ≡ true }
-    ensures { result ≡ sizes_of c }
+#[tactic(auto, unfolding(crate::specs::Sizes::sizes_of, messages::specs::Memory::bits_of, messages::specs::Memory::slots_of))]
+pub fn sizes_of(code: ValidCode) -> Sizes
+    ensures value { result ≡ sizes_of code.code }
+    ensures columns { (1 ≤ result.info) × (result.info ≤ 51) × (3 ≤ result.rows) × (result.rows ≤ 39) × (result.info + result.rows ≤ 60) }
+    ensures bounded { (result.edges ≤ 172) × (result.bits ≤ 19440) × (result.slots ≤ 55728) }
 {
-    let s = tables::shape_of(c.rate, c.family);
-    let edges = 3 * s.k_b + 2 * s.m_b + 1;
+    let s = code.shape();
+    let edges = code.edges();
     Sizes {
         rows: s.m_b,
         info: s.k_b,
-        edges: edges,
-        bits: s.n_b * c.z,
-        slots: edges * c.z,
+        edges,
+        bits: s.n_b * code.code.z,
+        slots: edges * code.code.z,
+    }
+}
+
+impl<'a> Lifted<'a> {
+    // Of a code and its lists.
+    pub fn new(code: ValidCode, lists: &'a Lists) -> Lifted<'a>
+        requires { lists.now ≡ lists_of code.code }
+        ensures { result.code.code ≡ code.code }
+    {
+        Lifted {
+            code,
+            sizes: sizes_of(code),
+            lists,
+        }
+    }
+
+    // The base edges of row r.
+    #[tactic(auto, using(crate::proofs::Lent::start_long, crate::proofs::Lent::order_long, crate::proofs::Lent::row_rises, crate::proofs::Lent::row_ends, crate::proofs::Lent::row_part))]
+    pub fn row(&self, r: usize) -> &[u8]
+        requires { r < self.now.sizes.rows }
+        ensures { result.now ≡ row_edges (code_graph self.now.code.code) r }
+    {
+        let order = &self.lists.order[..];
+        let from = usize::from(self.lists.start[r]);
+        let end = usize::from(self.lists.start[r + 1]);
+        &order[from..end]
+    }
+
+    // The base edges of column v, in rising row.
+    #[tactic(auto, using(crate::proofs::Lent::sorted_long, crate::proofs::Lent::column_part))]
+    pub fn column(&self, v: usize) -> &[u8]
+        requires { v < self.now.sizes.info + self.now.sizes.rows }
+        ensures { ColumnList (code_graph self.now.code.code) v result.now }
+    {
+        let sorted = &self.lists.sorted[..];
+        let k = self.sizes.info;
+        let from = (3 * v).min(k + 2 * v + 1);
+        let end = (3 * v + 3).min(k + 2 * v + 3);
+        &sorted[from..end]
     }
 }

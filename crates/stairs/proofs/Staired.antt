@@ -9,19 +9,21 @@ use native.Mathlib.Numerals.{add-one}
 use native.Mathlib.Decide.{dec_lt, ℕ_discrete}
 use borrow.Author.Tests.{lt-ltb, le-ltb}
 use lib.Dec.{ltb, eqb}
-use lib.ListN.{length, get_or}
-use lib.Seq.{ext_get_or}
+use borrow.Rule.Slice.PartMut.{put_mid}
+use lib.ListN.{length, get_or, take, drop, length-drop, replicate, get_or-replicate}
+use lib.Seq.{ext_get_or, length-take-le, get_or-take, get_or-drop}
 use Rattle.laws.specs.Range.{xor_sum}
-use Rattle.laws.specs.Written.{rewritten}
+use Rattle.laws.specs.Written.{Written, rewritten}
 use Rattle.laws.proofs.Parity.{xor_sum_ext}
 use Rattle.laws.proofs.Written.{length_tabulate, get_d_tabulate, at_rewritten}
-use Rattle.laws.proofs.Slots.{slot_lt, slot_div, slot_mod, slot_is, on_then_back}
+use Rattle.laws.proofs.Slots.{slot_lt, slot_div, slot_mod, slot_is, row_le, on_then_back}
 use Rattle.matrix.specs.Checks.{row_sum, lifted}
 use Rattle.matrix.proofs.Words.{of_bit_lem}
 use Rattle.matrix.specs.Encoding.{info_sum, total_sum, first_parity, parity_bit, bit}
 use Rattle.bits.specs.Sums.{differing}
 use Rattle.bits.specs.Rows.{Holds, Stepped}
 use Rattle.bits.proofs.Bytes.{differing_bits}
+use Rattle.bits.proofs.Put.{put_written}
 use Rattle.ldpc.specs.declared.choice.Code.{Code}
 use Rattle.ldpc.specs.Code.{code_graph, info_end, checks_of}
 use Rattle.edge_sums.specs.Sums.{sums_of}
@@ -62,10 +64,26 @@ module _ (c : Code) (info : List ℕ) where
   unfolding stair_bit parity_bit sum_bit total_bit first_parity
   stair_more i t h = rw (add-one, on_then_back t c.z h)
 
--- row i is put in: the turn of `put_rows`
+-- what a step does to a row that is lent and put back
+pub row_stepped : (at z n : ℕ) (middle : Bool) (parity next total row next' : List ℕ) → n ≡ z → at + z ≤ length parity
+    → length row ≡ length (take n (drop at parity)) → Stepped middle (take n (drop at parity)) next total row next'
+    → Written 0 at (λ t. t < z) (λ t. get_or next t 0) parity (put_mid at n parity row)
+    × ((t : ℕ) → t < z → get_or next' t 0 ≡ differing (differing (get_or parity (at + t) 0) (get_or next t 0)) (cond middle (get_or total t 0) 0))
+row_stepped at z n middle parity next total row next' e fits long P =
+    let inside : length (take n (drop at parity)) ≡ z = length-take-le n (drop at parity) (omega (arith, length-drop at parity)) ∙ e in (
+      put_written at z n parity row (λ t. get_or next t 0) e fits (long ∙ inside) (λ t h. P.put t (omega (arith, inside))),
+      λ t h.
+          P.made t (omega (arith, inside))
+          ∙ ap (λ (x : ℕ). differing (differing x (get_or next t 0)) (cond middle (get_or total t 0) 0))
+          (get_or-take n (drop at parity) t 0 (omega arith) ∙ get_or-drop at parity t 0),
+    )
+
+-- row i is put in: a turn of the loop
 module _ (c : Code) (info : List ℕ) (i : ℕ) (parity next total parity' next' : List ℕ) (lift : 0 < c.z) (i_lt : i < (code_graph c).shape.m_b)
     (e : parity ≡ stairs c info i) (N : Holds c.z (stair_bit c info i) next) (T : Holds c.z (total_bit c info) total)
-    (P : Stepped (i * c.z) c.z (eqb i ((code_graph c).shape.m_b / 2)) parity next total parity' next') where
+    (W : Written 0 (i * c.z) (λ t. t < c.z) (λ t. get_or next t 0) parity parity')
+    (M : (t : ℕ) → t < c.z → get_or next' t 0
+        ≡ differing (differing (get_or parity (i * c.z + t) 0) (get_or next t 0)) (cond (eqb i ((code_graph c).shape.m_b / 2)) (get_or total t 0) 0)) where
   before : (s : ℕ) → get_or parity s 0 ≡ get_or (stairs c info i) s 0
   before s = ap (λ (l : List ℕ). get_or l s 0) e
 
@@ -79,28 +97,28 @@ module _ (c : Code) (info : List ℕ) (i : ℕ) (parity next total parity' next'
       let b : get_or parity (i * c.z + t) 0 ≡ bit (sum_bit c info i t) =
       before (i * c.z + t) ∙ sum_at c info i (i * c.z + t) (inside t h) (omega (arith, d))
       ∙ ap₂ (λ (j u : ℕ). bit (sum_bit c info j u)) d (slot_mod i c.z t h) in
-      P.made t h
+      M t h
       ∙ ap₂ differing (ap₂ differing b (N t h) ∙ differing_bits _ _) (ap (λ (x : ℕ). cond (eqb i ((code_graph c).shape.m_b / 2)) x 0) (T t h) ∙ cond_bit (eqb i ((code_graph c).shape.m_b / 2)) (total_bit c info t))
       ∙ differing_bits _ _ ∙ ap bit (sym (stair_more c info i t h))
 
   at_row : (s : ℕ) → s < checks_of c → s / c.z ≡ i → get_or parity' s 0 ≡ get_or (stairs c info (i + 1)) s 0
   at_row s h k =
-      subst (λ (x : ℕ). get_or parity' x 0 ≡ get_or next (s % c.z) 0) (sym (slot_is s c.z i (s % c.z) k refl)) (P.put.at (s % c.z) (mod-lt s lift))
+      subst (λ (x : ℕ). get_or parity' x 0 ≡ get_or next (s % c.z) 0) (sym (slot_is s c.z i (s % c.z) k refl)) (W.at (s % c.z) (mod-lt s lift))
       ∙ N (s % c.z) (mod-lt s lift)
       ∙ ap (λ (j : ℕ). bit (stair_bit c info j (s % c.z))) (sym k)
       ∙ sym (stair_at c info (i + 1) s h (omega arith))
 
   off_row : (s : ℕ) → s < checks_of c → (s / c.z ≡ i → ⊥) → Dec (s / c.z < i) → get_or parity' s 0 ≡ get_or (stairs c info (i + 1)) s 0
   off_row s h k (yes l) =
-      P.put.off s (λ t p q. k (ap (λ (x : ℕ). x / c.z) q ∙ slot_div i c.z t p)) ∙ before s ∙ stair_at c info i s h l
+      W.off s (λ t p q. k (ap (λ (x : ℕ). x / c.z) q ∙ slot_div i c.z t p)) ∙ before s ∙ stair_at c info i s h l
       ∙ sym (stair_at c info (i + 1) s h (omega arith))
   off_row s h k (no l) =
-      P.put.off s (λ t p q. k (ap (λ (x : ℕ). x / c.z) q ∙ slot_div i c.z t p)) ∙ before s ∙ sum_at c info i s h (omega arith)
+      W.off s (λ t p q. k (ap (λ (x : ℕ). x / c.z) q ∙ slot_div i c.z t p)) ∙ before s ∙ sum_at c info i s h (omega arith)
       ∙ sym (sum_at c info (i + 1) s h (omega arith))
 
   pub rows_more : parity' ≡ stairs c info (i + 1)
   rows_more =
-      let long : length parity' ≡ checks_of c = P.put.long ∙ ap length e ∙ length_stairs c info i in
+      let long : length parity' ≡ checks_of c = W.long ∙ ap length e ∙ length_stairs c info i in
       ext_get_or 0 parity' (stairs c info (i + 1)) (long ∙ sym (length_stairs c info (i + 1)))
       (λ s h. by s (omega (arith, long)) (ℕ_discrete (s / c.z) i))
     where
@@ -133,3 +151,12 @@ module _ (c : Code) (info : List ℕ) (lift : 0 < c.z) where
       let f : ℕ → ℕ = λ t. get_or total ((t + c.z - 1) % c.z) 0 in
       let a : get_or (rewritten 0 c.z f next₀) t 0 ≡ f t = rw zero-add at (at_rewritten 0 0 c.z f next₀ (omega (arith, zero-add c.z)) t h) in
       ap (λ (x : List ℕ). get_or x t 0) e ∙ a ∙ T ((t + c.z - 1) % c.z) (mod-lt (t + c.z - 1) lift)
+
+pub zeros : (z : ℕ) → z ≤ 324 → Holds z (λ t. false) (replicate 324 0)
+zeros z h t k = get_or-replicate 324 t 0 0 (omega arith)
+
+-- row i lies within the parity part
+pub row_lies : (c : Code) (info : List ℕ) (i m : ℕ) (parity : List ℕ) → m ≡ (code_graph c).shape.m_b → i < m → parity ≡ stairs c info i
+    → i * c.z + c.z ≤ length parity
+unfolding checks_of
+row_lies c info i m parity is h e = omega (arith, row_le c.z (rw is at h), ap length e, length_stairs c info i)

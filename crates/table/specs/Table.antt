@@ -1,12 +1,11 @@
 -- The starred rows of 01's commissioning table, and the test that a row holds of the definitions. Assumes nothing.
-use Rattle.std.specs.Prelude.{Ok}
-use Rattle.std.specs.Prelude.{Bool, true, false, ◌&&◌, ◌||◌, List, [], ◌∷◌, ℕ, eqb, ℤ, pos, Float}
+use Rattle.std.specs.Prelude.{Ok, Err, Bool, true, false, ◌&&◌, ◌||◌, List, [], ◌∷◌, ℕ, eqb, ℤ, pos, Float}
 use Rattle.std.specs.Bool.{beq}
 use Rattle.std.proofs.Math.Option.{Option, none, some}
 use Rattle.std.specs.Float.{fin}
 use Rattle.laws.specs.Run.{Progress}
 use Rattle.laws.specs.Written.{tabulate}
-use Rattle.refusals.specs.Outcome.{Outcome, refused}
+use Rattle.refusals.specs.Outcome.{Outcome, after}
 use Rattle.ldpc.specs.declared.choice.Code.{Code}
 use Rattle.ldpc.specs.Choice.{chosen}
 use Rattle.coder.specs.Calls.{encoding_of, unsatisfied_of}
@@ -14,7 +13,6 @@ use Rattle.decoder.specs.declared.record.DecodeResult.{DecodeResult}
 use Rattle.word.specs.Word.{word_of}
 use Rattle.runs.specs.Runs.{alpha, unbroken}
 use Rattle.decoder.specs.Decoding.{result_of}
-use Rattle.decoder.specs.Calls.{by_code}
 
 -- what 01 says of a rate and n_tx
 pub data Row : Type 0 where
@@ -64,7 +62,7 @@ same_word (x ∷ a) (y ∷ b) = eqb x y && same_word a b
 
 unfoldable pub is_refused : Outcome Code → ℕ → ℕ → ℕ → Bool
 is_refused (Ok c) number first second = false
-is_refused (refused n a b) number first second = eqb n number && eqb a first && eqb b second
+is_refused (Err e) number first second = eqb e.number number && eqb e.first first && eqb e.second second
 
 -- what 01 leaves unsaid is met by any number
 unfoldable pub meets : ℕ → Option ℕ → Bool
@@ -89,10 +87,10 @@ reads_as c p result word unsatisfied =
 -- a decode takes place in a memory w
 unfoldable pub holds : List Float → Row → Bool
 holds w (refuses rate n number first second) = is_refused (chosen rate n) number first second
-holds w (gives rate n family z k shortened) = by_code (chosen rate n) (has_sizes family z k shortened) false
-holds w (encodes rate n info word) = by_code (chosen rate n) (λ c. same_word (encoding_of c info) word) false
+holds w (gives rate n family z k shortened) = after (chosen rate n) (has_sizes family z k shortened) false
+holds w (encodes rate n info word) = after (chosen rate n) (λ c. same_word (encoding_of c info) word) false
 holds w (decodes rate n rx limit result word unsatisfied) =
-    by_code (chosen rate n) (λ c. reads_as c (unbroken alpha c rx w limit) result word unsatisfied) false
+    after (chosen rate n) (λ c. reads_as c (unbroken alpha c rx w limit) result word unsatisfied) false
 
 unfoldable pub all_hold : List Float → List Row → Bool
 all_hold w [] = true

@@ -1,5 +1,5 @@
--- `bit_pass` meets its contract. The invariant: the columns below v are done. Assumes nothing.
-use Prim.Native.Nat.{◌+◌, ◌-◌, ◌≤◌, ◌<◌}
+-- The columns below v are done. Assumes nothing.
+use Prim.Native.Nat.{◌+◌, ◌<◌}
 use lib.Ieee.{nan}
 use Rattle.laws.specs.Written.{Written}
 use Rattle.laws.proofs.Written.{Upto}
@@ -10,9 +10,6 @@ use Rattle.by_columns.proofs.bit_pass.Given as goal
 
 abbrev pub invariant-loop-v : goal.invariant-loop-v
 invariant-loop-v l =
-    let g = code_graph l.c in
-    (l.v ≤ l.n)
-    × Written nan (bits_of g l.c.z) (Upto (λ x. x < bits_of g l.c.z + slots_of g l.c.z) (column_of g l.c.z) l.v) (bit_sent g l.c.z l.initial.work) l.initial.work l.work
-
-abbrev pub decreases-loop-v : goal.decreases-loop-v
-decreases-loop-v l = l.n - l.v
+    let g = code_graph l.l.code.code in
+    let z = l.l.code.code.z in
+    Written nan (bits_of g z) (Upto (λ x. x < bits_of g z + slots_of g z) (column_of g z) l.v) (bit_sent g z l.initial.work) l.initial.work l.work

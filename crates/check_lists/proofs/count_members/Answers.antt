@@ -10,15 +10,12 @@ use Rattle.check_lists.proofs.count_members.Goals.{in-Some, in_default}
 
 pub loop-b-init : goal.loop-b-init
 unfolding counted
-loop-b-init c = (omega arith, omega arith, refl)
-
-pub member_at-m-requires : goal.member_at-m-requires
-member_at-m-requires c = (c.requires.0, c.requires.1, omega (arith, c.requires.2, c.loop-b-test.true))
+loop-b-init c = (omega arith, refl)
 
 pub loop-b-preserved : goal.loop-b-preserved
 loop-b-preserved c =
     let b = c.loop-b.b in
-    let code = c.args.c in
+    let code = c.args.g.now.code.code in
     let check = c.args.check in
     elim c.match-m.branch [
       | in-Some w ↦ omega (arith, count_more (is_member code check) b (place_told code check b (sym w.in-Some.is ∙ c.member_at-m.ensures)).0)
@@ -28,4 +25,4 @@ loop-b-preserved c =
 pub returns : goal.returns
 returns c =
     let e : c.loop-b.b ≡ c.args.n = omega arith in
-    c.loop-b.invariant.2 ∙ ap (counted _) e
+    c.loop-b.invariant.1 ∙ ap (counted _) e

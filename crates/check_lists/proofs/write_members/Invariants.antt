@@ -29,7 +29,5 @@ stored {c} {check} {b} {out₀ = out₀} F k e =
     rw (e, k, F.place) (front_more (is_member c check) (member_place c check) out₀ b F.has (omega (arith, F.room)))
 
 abbrev pub invariant-loop-b : goal.invariant-loop-b
-invariant-loop-b l = (l.b ≤ l.n) × (l.count ≡ counted (is_member l.c l.check) l.b) × (l.out ≡ front l.c l.check l.b l.initial.out)
-
-abbrev pub decreases-loop-b : goal.decreases-loop-b
-decreases-loop-b l = l.n - l.b
+invariant-loop-b l =
+    (l.count ≡ counted (is_member l.g.code.code l.check) l.b) × (l.out ≡ front l.g.code.code l.check l.b l.initial.out)

@@ -1,19 +1,20 @@
 -- `add_next` meets its contract. Assumes nothing.
-use mathlib.Core.Path.{ap}
-use Rattle.ldpc.proofs.CodeEdges.{edge_asked, edge_told_lem, edged}
+use Rattle.std.proofs.Common.{sym, subst}
+use Rattle.bits.specs.Sums.{Bits}
+use Rattle.edge_sums.proofs.Summed.{sums_bits, edge_added, row_fits}
 use Rattle.edge_sums.proofs.add_next.Goals as goal
 
-pub edge_at-e-requires : goal.edge_at-e-requires
-edge_at-e-requires c = edge_asked c.args.c c.args.b c.requires.1 c.requires.2 c.requires.0
+pub add_edge-requires-clause-row : goal.add_edge-requires-clause-row
+add_edge-requires-clause-row c =
+    let g = c.args.g.now in
+    let word = c.args.word.bytes.now in (
+      row_fits g.code.code word c.args.b g.graph c.edge-e.result.row c.args.sums.now g.of_code c.edge-e.ensures.row c.requires.1,
+      subst Bits (sym c.requires.1) (sums_bits g.code.code word c.args.b),
+    )
 
-pub part_of-part-requires : goal.part_of-part-requires
-part_of-part-requires c =
-    let e = edged c.args.c c.args.b c.requires.1 c.requires.2 c.edge_at-e.ensures in
-    (c.requires.0, ap (λ g. g.shape.k_b) c.requires.1, e.column_lt)
-
-pub add_edge-requires : goal.add_edge-requires
-add_edge-requires c =
-    let is = edge_told_lem c.args.c c.args.b c.requires.1 c.requires.2 c.edge_at-e.ensures in record {
-      c_value = (c.requires.0, c.requires.2, is);
-      bits = (c.requires.3, c.part_of-part.ensures, c.requires.4);
-    }
+pub returns : goal.returns
+returns c =
+    let g = c.args.g.now in
+    edge_added g.code.code c.args.word.bytes.now c.args.b g.graph c.edge-e.result c.column_part-part.result.bytes.now c.args.sums.now
+    c.add_edge.new.sums g.of_code g.code.sized.0 c.column_part-part.result.each c.edge-e.ensures.value c.column_part-part.ensures c.requires.1
+    c.add_edge.ensures

@@ -1,28 +1,13 @@
--- `go_on` meets its contract. Assumes nothing.
-use mathlib.Core.Path.{◌≡◌, sym, ap, subst}
-use native.Mathlib.Omega.{arith}
-use lib.ListN.{length}
+-- `go_on` meets its contract: a decode that has converged stays as it is. Assumes nothing.
+use mathlib.Core.Path.{sym, ap}
 use Rattle.runs.proofs.Steps.{stays}
-use Rattle.laws.proofs.Written.{length_tabulate}
-use Rattle.ldpc.specs.declared.choice.Code.{Code}
-use Rattle.lists.specs.Lists.{lists_of}
-use Rattle.lists.specs.Sorting.{sorted_of}
-use Rattle.lists.proofs.ColumnSorted.{column_sorted}
-use Rattle.sizes.specs.Lent.{Sorted}
+use Rattle.runs.specs.Runs.{alpha, reach_of, reached_in}
 use Rattle.runs.proofs.go_on.Goals as goal
 
-length_sorted : (c : Code) → length (lists_of c).sorted ≡ 153
-unfolding lists_of sorted_of
-length_sorted c = length_tabulate _ 153
+pub returns-then-from-clause-value : goal.returns-then-from-clause-value
+unfolding reach_of reached_in
+returns-then-from-clause-value c = sym (ap reach_of (stays alpha c.args.code.code c.args.from c.args.g c.args.work.now c.if-from.true))
 
-pub returns-then-from : goal.returns-then-from
-returns-then-from c = stays c.args.c c.args.from c.args.g c.args.work.now c.if-from.true
-
-pub iterations-requires : goal.iterations-requires
-unfolding lists_of
-iterations-requires c =
-    let m = c.requires.0.is_made in
-    let sorted = subst (Sorted c.args.c) (sym (ap (λ l. l.sorted) c.lists_of-l.ensures)) (length_sorted c.args.c, λ v h. column_sorted c.args.c m v h) in record {
-      ready = (c.requires.0, (ap (λ l. l.order) c.lists_of-l.ensures, ap (λ l. l.start) c.lists_of-l.ensures), (ap (λ l. l.column) c.lists_of-l.ensures, ap (λ l. l.turn) c.lists_of-l.ensures), sorted);
-      converged_value = (c.if-from.false, omega (arith, c.requires.1));
-    }
+pub returns-then-from-clause-work_after : goal.returns-then-from-clause-work_after
+unfolding reached_in
+returns-then-from-clause-work_after c = sym (ap (λ p. p.memory) (stays alpha c.args.code.code c.args.from c.args.g c.args.work.now c.if-from.true))

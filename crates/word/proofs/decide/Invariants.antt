@@ -1,4 +1,4 @@
--- `decide` meets its contract. The invariant: the first i decisions are written. Assumes nothing.
+-- `decide` meets its contract. The invariant of both loops: the first i decisions are written. Assumes nothing.
 use Prim.Native.Nat.{◌-◌, ◌≤◌, ◌<◌}
 use Rattle.laws.specs.Floats.{negative}
 use Rattle.laws.proofs.Written.{Upto}
@@ -12,3 +12,9 @@ invariant-loop-i l = (l.i ≤ l.n) × Written 0 l.to (Upto (λ i'. i' < l.n) (λ
 
 abbrev pub decreases-loop-i : goal.decreases-loop-i
 decreases-loop-i l = l.n - l.i
+
+abbrev pub invariant-loop-i-2 : goal.invariant-loop-i-2
+invariant-loop-i-2 l = (l.i ≤ l.n) × Written 0 l.to (Upto (λ i'. i' < l.n) (λ i'. i') l.i) (λ i'. bit (negative (reading l.work l.at i'))) l.fn.out l.out
+
+abbrev pub decreases-loop-i-2 : goal.decreases-loop-i-2
+decreases-loop-i-2 l = l.n - l.i

@@ -5,12 +5,4 @@ use Rattle.word.proofs.Word.{word_bits}
 use Rattle.word.proofs.read.Goals as goal
 
 pub is_clean-requires : goal.is_clean-requires
-is_clean-requires c =
-    (c.requires.0.is_made, subst Bits (sym c.write_word.ensures) (word_bits c.args.c c.args.work.now))
-
-pub returns : goal.returns
-returns c =
-    record {
-      value = rw (c.is_clean.ensures, c.write_word.ensures);
-      out_after = c.write_word.ensures;
-    }
+is_clean-requires c = subst Bits (sym c.write_word.ensures) (word_bits c.args.code.code c.args.work.now)

@@ -1,12 +1,9 @@
--- `copy_info` meets its contract. Assumes nothing.
-use Prim.Native.Nat.{◌-◌, ◌≤◌, ◌<◌}
-use lib.ListN.{length, get_or}
-use Rattle.laws.specs.Written.{Written}
-use Rattle.laws.proofs.Written.{Upto}
+-- `copy_info` meets its contract. The invariant: the first i bits are copied. Assumes nothing.
+use Rattle.std.proofs.Common.{◌≡◌, ℕ, ◌<◌, ◌≤◌, length, get_or}
 use Rattle.bits.proofs.rows.copy_info.Given as goal
 
 abbrev pub invariant-loop-i : goal.invariant-loop-i
-invariant-loop-i l = (l.i ≤ length l.info) × Written 0 0 (Upto (λ s. s < length l.info) (λ s. s) l.i) (λ s. get_or l.info s 0) l.initial.out l.out
-
-abbrev pub decreases-loop-i : goal.decreases-loop-i
-decreases-loop-i l = length l.info - l.i
+invariant-loop-i l =
+    (length l.out ≡ length l.initial.out)
+    × ((k : ℕ) → k < l.i → get_or l.out k 0 ≡ get_or l.info k 0)
+    × ((k : ℕ) → l.i ≤ k → get_or l.out k 0 ≡ get_or l.initial.out k 0)

@@ -1,18 +1,10 @@
--- `turn_back` meets its contract: the loop's writes come after the store before it. Assumes nothing.
-use mathlib.Core.List.{List}
-use Prim.Native.Nat.{ℕ, ◌+◌, ◌-◌, ◌%◌, ◌≤◌, ◌<◌}
-use lib.ListN.{get_or}
-use Rattle.laws.specs.Written.{Written}
-use Rattle.laws.proofs.Written.{Upto}
+-- `turn_back` meets its contract. The invariant: the places before t are written. Assumes nothing.
+use Rattle.std.proofs.Common.{◌≡◌, ℕ, ◌-◌, ◌<◌, ◌≤◌, length, get_or}
 use Rattle.bits.proofs.rows.turn_back.Given as goal
 
--- total turned back by one, at the places before t
-abbrev pub TurnedUpto : List ℕ → ℕ → ℕ → List ℕ → List ℕ → Type 0
-TurnedUpto total z t first₀ first =
-    Written 0 0 (Upto (λ s. s < z) (λ s. s) t) (λ s. get_or total ((s + z - 1) % z) 0) first₀ first
-
 abbrev pub invariant-loop-t : goal.invariant-loop-t
-invariant-loop-t l = (1 ≤ l.t) × (l.t ≤ l.z) × TurnedUpto l.total l.z l.t l.initial.first l.first
-
-abbrev pub decreases-loop-t : goal.decreases-loop-t
-decreases-loop-t l = l.z - l.t
+invariant-loop-t l =
+    (length l.first ≡ length l.fn.first)
+    × (get_or l.first 0 0 ≡ get_or l.total (l.z - 1) 0)
+    × ((k : ℕ) → 1 ≤ k → k < l.t → get_or l.first k 0 ≡ get_or l.total (k - 1) 0)
+    × ((k : ℕ) → l.t ≤ k → get_or l.first k 0 ≡ get_or l.fn.first k 0)

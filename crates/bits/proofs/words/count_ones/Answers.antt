@@ -1,8 +1,6 @@
 -- `count_ones` meets its contract. Assumes nothing.
-use mathlib.Core.Path.{◌≡◌, refl, ap, ◌∙◌}
-use native.Mathlib.Omega.{arith}
+use Rattle.std.proofs.Common.{◌≡◌, refl, ap, ◌∙◌, arith, length, get_or}
 use borrow.Author.Tests.{eq-eqb, ne_eqb}
-use lib.ListN.{length, get_or}
 use Rattle.laws.specs.Range.{count as counted}
 use Rattle.laws.proofs.Collect.{count_more, count_skip}
 use Rattle.bits.specs.Words.{ones_in}
@@ -12,7 +10,7 @@ use Rattle.bits.proofs.words.count_ones.Invariants.{is_one}
 
 pub loop-i-init : goal.loop-i-init
 unfolding counted
-loop-i-init c = (omega arith, omega arith, refl)
+loop-i-init c = (omega arith, refl)
 
 pub loop-i-preserved : goal.loop-i-preserved
 loop-i-preserved c =
@@ -27,4 +25,4 @@ pub returns : goal.returns
 unfolding ones_in
 returns c =
     let e : c.loop-i.i ≡ length c.args.bits.now = omega arith in
-    c.loop-i.invariant.2 ∙ ap (counted _) e
+    c.loop-i.invariant.1 ∙ ap (counted _) e

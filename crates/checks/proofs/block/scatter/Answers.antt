@@ -1,9 +1,12 @@
 -- `scatter` meets its contract. The invariant: the slots of the first i base edges are written. Assumes nothing.
-use mathlib.Core.Path.{◌≡◌, subst}
+use mathlib.Core.Path.{◌≡◌, refl, subst}
 use Prim.Native.Nat.{ℕ}
 use native.Mathlib.Omega.{arith}
 use lib.ListN.{length}
 use Rattle.laws.proofs.Written.{none}
+use Rattle.messages.specs.Memory.{reading}
+use Rattle.slots.specs.Row.{gathered_four}
+use Rattle.checks.proofs.Four.{gathered_long}
 use Rattle.checks.proofs.Sent.{SentUpto, sent_one}
 use Rattle.checks.proofs.block.scatter.Goals as goal
 
@@ -32,17 +35,19 @@ store-requires c =
 pub loop-i-preserved : goal.loop-i-preserved
 loop-i-preserved c =
     let i = c.loop-i.i in
-    let h = c.loop-i-test.true in (
+    let h = c.loop-i-test.true in
+    let m = reading c.args.work.now c.args.from in
+    let rs = gathered_four m c.args.z c.args.t c.args.edges.now in (
       omega arith,
       sent_one c.args.from c.args.to c.args.z c.args.t c.args.edges.now c.args.factor i c.requires.0 (c.requires.2 i h) c.args.work.now
-          c.loop-i.work c.store.new.work c.slot-s.result c.place.result c.args.l c.load-m.result c.message.result
+          c.loop-i.work c.store.new.work c.slot-s.result c.place.result rs c.load-m.result c.message.result
           c.loop-i.invariant.1
           (record {
             at = c.slot-s.ensures;
             place = c.place.ensures;
-            gathered = c.requires.4;
+            gathered = refl;
             read = c.load-m.ensures;
-            said = c.message.ensures;
+            said = c.message.ensures rs (gathered_long m c.args.z c.args.t c.args.edges.now) c.requires.4;
             put = c.store.ensures;
           }),
     )

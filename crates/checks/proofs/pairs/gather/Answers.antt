@@ -1,20 +1,19 @@
 -- `gather` meets its contract. The invariant: the first i base edges are gathered, at both blocks. Assumes nothing.
-use mathlib.Core.Path.{ap, ◌∙◌}
+use mathlib.Core.Path.{ap, subst}
 use native.Mathlib.Omega.{arith}
 use lib.Seq.{take_all}
 use Rattle.messages.specs.Memory.{reading}
 use Rattle.slots.specs.Row.{gathered_four}
-use Rattle.checks.proofs.Four.{fresh_gathered, fresh_ordered, four_more}
+use Rattle.checks.specs.Lanes.{Shows}
+use Rattle.checks.proofs.Four.{fresh_gathered, shown_more}
 use Rattle.checks.proofs.pairs.gather.Goals as goal
 
 pub loop-i-init : goal.loop-i-init
 loop-i-init c =
     let m = reading c.args.work.now c.args.from in (
       omega arith,
-      c.fresh-first.ensures ∙ fresh_gathered m c.args.z c.args.t c.args.edges.now,
-      c.fresh-second.ensures ∙ fresh_gathered m c.args.z c.args.u c.args.edges.now,
-      fresh_ordered _ c.fresh-first.ensures,
-      fresh_ordered _ c.fresh-second.ensures,
+      subst (Shows _) (fresh_gathered m c.args.z c.args.t c.args.edges.now) c.fresh-first.ensures,
+      subst (Shows _) (fresh_gathered m c.args.z c.args.u c.args.edges.now) c.fresh-second.ensures,
     )
 
 pub slot-requires : goal.slot-requires
@@ -37,26 +36,18 @@ pub load-n-requires : goal.load-n-requires
 load-n-requires c =
     omega (arith, c.slot-in-loop-i.ensures, c.requires.1, c.requires.3 c.loop-i.i c.loop-i-test.true)
 
-pub with-a-requires : goal.with-a-requires
-with-a-requires c = c.loop-i.invariant.3
-
-pub with-c-requires : goal.with-c-requires
-with-c-requires c = c.loop-i.invariant.4
-
 pub loop-i-preserved : goal.loop-i-preserved
 loop-i-preserved c =
     let h = c.loop-i-test.true in
     let work = c.args.work.now in
     let edges = c.args.edges.now in (
       omega arith,
-      four_more work c.args.from c.args.z c.args.t edges c.loop-i.i c.slot.result c.place.result h
-          c.slot.ensures c.place.ensures c.loop-i.first c.with-a.result c.load-m.result
-          c.loop-i.invariant.1 c.load-m.ensures c.with-a.ensures.value,
-      four_more work c.args.from c.args.z c.args.u edges c.loop-i.i c.slot-in-loop-i.result c.place-in-loop-i.result h
-          c.slot-in-loop-i.ensures c.place-in-loop-i.ensures c.loop-i.second c.with-c.result c.load-n.result
-          c.loop-i.invariant.2 c.load-n.ensures c.with-c.ensures.value,
-      c.with-a.ensures.all_ordered,
-      c.with-c.ensures.all_ordered,
+      shown_more work c.args.from c.args.z c.args.t edges c.loop-i.i c.slot.result c.place.result h
+          c.slot.ensures c.place.ensures c.loop-i.first c.with-first.result c.load-m.result
+          c.loop-i.invariant.1 c.load-m.ensures c.with-first.ensures,
+      shown_more work c.args.from c.args.z c.args.u edges c.loop-i.i c.slot-in-loop-i.result c.place-in-loop-i.result h
+          c.slot-in-loop-i.ensures c.place-in-loop-i.ensures c.loop-i.second c.with-second.result c.load-n.result
+          c.loop-i.invariant.2 c.load-n.ensures c.with-second.ensures,
     )
 
 pub returns : goal.returns
@@ -64,6 +55,6 @@ returns c =
     let inv = c.loop-i.invariant in
     let m = reading c.args.work.now c.args.from in
     let all = take_all c.loop-i.i c.args.edges.now (omega (arith, c.loop-i-test.false)) in record {
-      first_value = inv.1 ∙ ap (gathered_four m c.args.z c.args.t) all;
-      second_value = inv.2 ∙ ap (gathered_four m c.args.z c.args.u) all;
+      first_value = subst (Shows _) (ap (gathered_four m c.args.z c.args.t) all) inv.1;
+      second_value = subst (Shows _) (ap (gathered_four m c.args.z c.args.u) all) inv.2;
     }

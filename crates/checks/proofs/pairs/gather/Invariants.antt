@@ -1,18 +1,16 @@
 -- `gather` meets its contract. The invariant: the first i base edges are gathered, at both blocks. Assumes nothing.
-use mathlib.Core.Path.{◌≡◌}
 use Prim.Native.Nat.{◌-◌, ◌≤◌}
 use lib.ListN.{length, take}
 use Rattle.messages.specs.Memory.{reading}
-use Rattle.slots.specs.Row.{gathered_four, AllOrdered}
+use Rattle.slots.specs.Row.{gathered_four}
+use Rattle.checks.specs.Lanes.{Shows}
 use Rattle.checks.proofs.pairs.gather.Given as goal
 
 abbrev pub invariant-loop-i : goal.invariant-loop-i
 invariant-loop-i l =
     (l.i ≤ length l.edges)
-    × (l.first ≡ gathered_four (reading l.work l.from) l.z l.t (take l.i l.edges))
-    × (l.second ≡ gathered_four (reading l.work l.from) l.z l.u (take l.i l.edges))
-    × AllOrdered l.first
-    × AllOrdered l.second
+    × Shows l.first (gathered_four (reading l.work l.from) l.z l.t (take l.i l.edges))
+    × Shows l.second (gathered_four (reading l.work l.from) l.z l.u (take l.i l.edges))
 
 abbrev pub decreases-loop-i : goal.decreases-loop-i
 decreases-loop-i l = length l.edges - l.i

@@ -1,9 +1,12 @@
 -- `scatter` meets its contract. The invariant: the slots of the first i base edges are written, at both blocks. Assumes nothing.
-use mathlib.Core.Path.{◌≡◌, subst}
+use mathlib.Core.Path.{◌≡◌, refl, subst}
 use Prim.Native.Nat.{ℕ}
 use native.Mathlib.Omega.{arith}
 use lib.ListN.{length}
 use Rattle.laws.proofs.Written.{none}
+use Rattle.messages.specs.Memory.{reading}
+use Rattle.slots.specs.Row.{gathered_four}
+use Rattle.checks.proofs.Four.{gathered_long}
 use Rattle.checks.proofs.Sent.{SentUpto, sent_more}
 use Rattle.checks.proofs.pairs.scatter.Goals as goal
 
@@ -51,26 +54,29 @@ store-requires-in-loop-i c =
 pub loop-i-preserved : goal.loop-i-preserved
 loop-i-preserved c =
     let i = c.loop-i.i in
-    let h = c.loop-i-test.true in (
+    let h = c.loop-i-test.true in
+    let m = reading c.args.work.now c.args.from in
+    let rs = gathered_four m c.args.z c.args.t c.args.edges.now in
+    let ks = gathered_four m c.args.z c.args.u c.args.edges.now in (
       omega arith,
       sent_more c.args.from c.args.to c.args.z c.args.t c.args.u c.args.edges.now c.args.factor i
           c.requires.t_bound.0 c.requires.t_bound.1 (c.requires.t_bound.3 i h) c.args.work.now c.loop-i.work c.store.new.work
-          c.store-in-loop-i.new.work c.slot-s.result c.slot-r.result c.place.result c.place-in-loop-i.result c.args.first
-          c.args.second c.load-m.result c.load-n.result c.message.result c.message-in-loop-i.result c.loop-i.invariant.1
+          c.store-in-loop-i.new.work c.slot-s.result c.slot-r.result c.place.result c.place-in-loop-i.result rs
+          ks c.load-m.result c.load-n.result c.message.result c.message-in-loop-i.result c.loop-i.invariant.1
           (record {
             at = c.slot-s.ensures;
             place = c.place.ensures;
-            gathered = c.requires.first_value.0;
+            gathered = refl;
             read = c.load-m.ensures;
-            said = c.message.ensures;
+            said = c.message.ensures rs (gathered_long m c.args.z c.args.t c.args.edges.now) c.requires.first_value.0;
             put = c.store.ensures;
           })
           (record {
             at = c.slot-r.ensures;
             place = c.place-in-loop-i.ensures;
-            gathered = c.requires.first_value.1;
+            gathered = refl;
             read = c.load-n.ensures;
-            said = c.message-in-loop-i.ensures;
+            said = c.message-in-loop-i.ensures ks (gathered_long m c.args.z c.args.u c.args.edges.now) c.requires.first_value.1;
             put = c.store-in-loop-i.ensures;
           }),
     )

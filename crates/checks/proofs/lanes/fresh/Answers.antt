@@ -1,0 +1,10 @@
+-- `fresh` meets its contract: 1.0 / 0.0 is an infinity, by computation. Assumes nothing.
+use mathlib.Core.Path.{refl}
+use lib.Ieee as Ieee
+use Rattle.laws.specs.Written.{tabulate}
+use Rattle.rule.specs.Rule.{started}
+use Rattle.checks.proofs.lanes.fresh.Goals as goal
+
+pub returns : goal.returns
+unfolding Ieee.of_bits Ieee.div tabulate started
+returns c = record { least = refl; second = refl; place = refl; sign = refl }

@@ -1,0 +1,14 @@
+-- `message` meets its contract. Assumes nothing.
+use mathlib.Core.Path.{◌∙◌}
+use lib.Ieee as Ieee
+use lib.Ieee.{nan}
+use Rattle.rule.specs.Rule.{answered}
+use Rattle.slots.specs.Row.{past}
+use Rattle.checks.proofs.Lanewise.{zip2_tabulated, sent}
+use Rattle.checks.proofs.lanes.message.Goals as goal
+
+pub returns : goal.returns
+unfolding Ieee.of_bits Ieee.neg
+returns c rs long s =
+    sent c.args.factor c.args.place rs c.args.m long c.fits-m.0 c.args.l s
+    ∙ zip2_tabulated past nan (λ r m. answered c.args.factor r m c.args.place) 4 rs c.args.m long c.fits-m.0
