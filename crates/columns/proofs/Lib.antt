@@ -1,2 +1,3 @@
 -- Where a column has a row. Assumes nothing.
+pub mod Found
 pub mod Places

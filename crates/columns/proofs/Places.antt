@@ -3,12 +3,11 @@ use mathlib.Core.Path.{◌≡◌, refl, ◌∙◌}
 use mathlib.Core.Bool.{Bool, true, false, ◌&&◌}
 use mathlib.Core.List.{List}
 use Prim.Native.Nat.{ℕ, ◌+◌, ◌*◌, ◌<◌, ◌≤◌}
-use native.Mathlib.Nat.{add-zero}
 use native.Mathlib.Omega.{arith}
 use lib.Dec.{ltb, eqb}
-use lib.ListN.{length, get_or}
+use lib.ListN.{length}
 use borrow.Author.Tests.{lt-ltb, ltb-false, eqb-false}
-use Rattle.laws.specs.Range.{first}
+use Rattle.laws.specs.Range.{first, some}
 use Rattle.laws.specs.Columns.{has_row, entry_of}
 use Rattle.laws.proofs.First.{Least, first_least}
 use Rattle.laws.proofs.Some.{some_first, some_ext}
@@ -21,12 +20,14 @@ pub place_le : (rows : List ℕ) (c r : ℕ) → first (is_row rows c r) 3 ≤ 3
 place_le rows c r = (first_least (is_row rows c r) 3).most
 
 module _ (rows : List ℕ) (c : ℕ) (whole : 3 * c + 3 ≤ length rows) where
-  pub has_first : (r : ℕ) → has_row rows c r ≡ ltb (first (is_row rows c r) 3) 3
+  pub has_some : (r : ℕ) → has_row rows c r ≡ some (is_row rows c r) 3
   unfolding has_row
-  has_first r =
+  has_some r =
       some_ext (λ e. ltb (3 * c + e) (length rows) && is_row rows c r e) (is_row rows c r) 3
       (λ e h. rw (lt-ltb (3 * c + e) (length rows) (omega arith)))
-      ∙ some_first (is_row rows c r) 3
+
+  pub has_first : (r : ℕ) → has_row rows c r ≡ ltb (first (is_row rows c r) 3) 3
+  has_first r = has_some r ∙ some_first (is_row rows c r) 3
 
   -- a column has the rows of its places
   pub has_at : (r e : ℕ) → e < 3 → entry_of rows c e ≡ r → has_row rows c r ≡ true
@@ -39,6 +40,3 @@ module _ (rows : List ℕ) (c : ℕ) (whole : 3 * c + 3 ≤ length rows) where
 
   pub has_own : (e : ℕ) → e < 3 → has_row rows c (entry_of rows c e) ≡ true
   has_own e h = has_at (entry_of rows c e) e h refl
-
-  pub has_front : has_row rows c (get_or rows (3 * c) 0) ≡ true
-  has_front = has_at (get_or rows (3 * c) 0) 0 (omega arith) (rw add-zero)

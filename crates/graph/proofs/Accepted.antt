@@ -1,7 +1,7 @@
 -- What build and peg write: no call that reads it refuses it, rows are three different ones below m_b in each column, shifts are below
 -- 512, and build is peg and then assign_shifts. Assumes nothing.
 use Rattle.std.specs.Prelude.{Ok}
-use mathlib.Core.Path.{◌≡◌, ◌∙◌}
+use mathlib.Core.Path.{◌≡◌}
 use mathlib.Core.Bool.{false}
 use mathlib.Core.List.{List}
 use Prim.Native.Nat.{ℕ, ◌*◌, ◌-◌, ◌<◌, ◌≤◌}
@@ -9,14 +9,13 @@ use native.Mathlib.Omega.{arith}
 use lib.ListN.{length, get_or}
 use Rattle.laws.specs.Columns.{information_columns, faulty, first_fault}
 use Rattle.laws.proofs.First.{first_none}
-use Rattle.refusals.proofs.Lengths.{length_passed}
 use Rattle.growth.specs.Growth.{rows_of}
 use Rattle.growth.proofs.Grown.{length_grown, grown_sound}
 use Rattle.shifts.specs.Shifts.{shifts_of}
 use Rattle.shifts.proofs.Drawn.{length_chosen, shift_lt}
 use Rattle.cycles.specs.Cycles.{four_cycles}
-use Rattle.graph.specs.Calls.{shaped_told, rated_told, lifted_told, shifts_told, shifts_written, cycles_told, cycles_counted, built_rows, built_shifts}
-use Rattle.graph.proofs.Tested.{Shaped, sized, rated_fits, within_passed, sound_passed}
+use Rattle.graph.specs.Calls.{shaped_told, rated_told, shifts_told, shifts_written, cycles_told, built_rows, built_shifts}
+use Rattle.graph.proofs.Tested.{Shaped, sized, rated_fits, in_range_passed, exact_passed, sound_passed}
 
 -- the lengths of what is written
 pub length_rows : (m k : ℕ) → length (rows_of m k) ≡ 3 * k
@@ -45,25 +44,31 @@ no_fault m k size =
 
 module _ {n_b k_b : ℕ} (S : Shaped n_b k_b) where
   shaped_passed : shaped_told n_b k_b ≡ Ok tt
-  unfolding shaped_told
-  shaped_passed = rw (within_passed n_b 4 64 S.least S.most) (within_passed k_b 1 (n_b - 3) S.some S.few)
+  shaped_passed = rw (in_range_passed n_b 4 64 S.least S.most) (in_range_passed k_b 1 (n_b - 3) S.some S.few)
 
   -- the rows that peg writes are accepted for shifts
   pub shifts_told_lem : (room : ℕ) → room ≡ 3 * k_b → shifts_told n_b k_b (rows_of (n_b - k_b) k_b) room ≡ Ok tt
   unfolding shifts_told
   shifts_told_lem room e =
-      rw shaped_passed
-      (length_passed _ 5 (length (rows_of (n_b - k_b) k_b)) (3 * k_b) (length_rows (n_b - k_b) k_b) ∙ length_passed _ 9 room (3 * k_b) e
-      ∙ sound_passed _ (n_b - k_b) (rows_of (n_b - k_b) k_b) (no_fault (n_b - k_b) k_b (sized S).rows))
+      rw (
+        shaped_passed,
+        exact_passed 5 (length (rows_of (n_b - k_b) k_b)) (3 * k_b) (length_rows (n_b - k_b) k_b),
+        exact_passed 9 room (3 * k_b) e,
+      )
+      (sound_passed (n_b - k_b) (rows_of (n_b - k_b) k_b) (no_fault (n_b - k_b) k_b (sized S).rows))
 
   -- and with any shifts, as many, for the count of four-cycles
   pub cycles_told_lem : (shifts : List ℕ) (z : ℕ) → length shifts ≡ 3 * k_b → 1 ≤ z → z ≤ 65535
       → cycles_told n_b k_b (rows_of (n_b - k_b) k_b) shifts z ≡ Ok (four_cycles (rows_of (n_b - k_b) k_b) shifts z (n_b - k_b) k_b)
-  unfolding cycles_told cycles_counted lifted_told
+  unfolding cycles_told
   cycles_told_lem shifts z e low high =
-      rw (shaped_passed, within_passed z 1 65535 low high)
-      (length_passed _ 5 (length (rows_of (n_b - k_b) k_b)) (3 * k_b) (length_rows (n_b - k_b) k_b) ∙ length_passed _ 5 (length shifts) (3 * k_b) e
-      ∙ sound_passed _ (n_b - k_b) (rows_of (n_b - k_b) k_b) (no_fault (n_b - k_b) k_b (sized S).rows))
+      rw (
+        shaped_passed,
+        in_range_passed z 1 65535 low high,
+        exact_passed 5 (length (rows_of (n_b - k_b) k_b)) (3 * k_b) (length_rows (n_b - k_b) k_b),
+        exact_passed 5 (length shifts) (3 * k_b) e,
+        sound_passed (n_b - k_b) (rows_of (n_b - k_b) k_b) (no_fault (n_b - k_b) k_b (sized S).rows),
+      )
 
 -- the graph that build writes: both of the above, and its shifts are those that assign_shifts gives to its rows
 module _ (n_b percent : ℕ) (within : rated_told n_b percent ≡ Ok tt) where
@@ -73,7 +78,7 @@ module _ (n_b percent : ℕ) (within : rated_told n_b percent ≡ Ok tt) where
   pub built_shaped : Shaped n_b k
   unfolding information_columns
   built_shaped =
-      let R = rated_fits within in
+      let R = rated_fits {percent = percent} within in
       record { least = R.least; most = R.most; some = omega arith; few = omega (arith, R.least) }
 
   pub built_again : (seed : ℕ) (out : List ℕ) → length out ≡ 3 * k → shifts_written n_b k (built_rows n_b percent) seed out ≡ built_shifts n_b percent seed

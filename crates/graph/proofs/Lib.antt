@@ -1,4 +1,3 @@
--- The tests of the calls, the ways out of `build`, and what holds of the graphs built. Assumes nothing.
+-- What the tests of the calls come to, and what holds of the graphs built. Assumes nothing.
 pub mod Tested
-pub mod Built
 pub mod Accepted

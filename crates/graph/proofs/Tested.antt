@@ -1,64 +1,46 @@
--- What the tests of design values come to: passed, they give the limits; not passed, the refusal. Assumes nothing.
-use Rattle.std.specs.Prelude.{Ok}
-use mathlib.Core.Path.{◌≡◌, refl, sym, ap, ◌∙◌}
-use mathlib.Core.Bool.{Bool, true, false, true≢false}
+-- What the tests of the calls come to: passed, they give the limits. Assumes nothing.
+use Rattle.std.specs.Prelude.{Ok, Err}
+use mathlib.Core.Path.{◌≡◌, refl, ap}
+use mathlib.Core.Bool.{false}
 use mathlib.Core.List.{List}
-use Prim.Native.Nat.{ℕ, ◌+◌, ◌*◌, ◌/◌, ◌%◌, ◌-◌, ◌≤◌, ◌<◌}
+use Prim.Native.Nat.{ℕ, ◌+◌, ◌*◌, ◌-◌, ◌≤◌, ◌<◌}
 use native.Mathlib.Omega.{arith}
-use native.Mathlib.Decide.{dec_lt}
-use borrow.Author.Tests.{lt-ltb, le-ltb}
+use native.Mathlib.Decide.{dec_lt, ℕ_discrete}
+use borrow.Author.Tests.{lt-ltb, le-ltb, eq-eqb, ne_eqb}
 use lib.ListN.{length}
-use Rattle.laws.specs.Columns.{information_columns, faulty, first_fault}
+use Rattle.laws.specs.Columns.{faulty, first_fault}
 use Rattle.laws.proofs.First.{first_least}
-use Rattle.refusals.specs.Outcome.{Outcome, refused, refused_by, outcome, and_then}
-use Rattle.refusals.specs.declared.Refusal.{Refusal}
-use Rattle.refusals.specs.declared.Filled.{Filled}
-use Rattle.refusals.specs.declared.Filled.TheVariants as filled
-use Rattle.graph.specs.Calls.{within_told, shaped_told, rated_told, lifted_told, if_sound}
-
-abbrev is_refused : {A : Type 0} → Outcome A → Bool
-is_refused (Ok x) = false
-is_refused (refused n p q) = true
-
-told_apart : {A : Type 0} {a : A} {n p q : ℕ} → refused n p q ≡ Ok a → ⊥
-told_apart e = true≢false (ap is_refused e)
+use Rattle.refusals.specs.Outcome.{Outcome, and_then, in_range, exact}
+use Rattle.cycles.specs.Places.{place_cycles}
+use Rattle.cycles.proofs.Once.{once}
+use Rattle.graph.specs.Calls.{rated_told, lifted_told, sound_told, cycles_told}
 
 -- two tests are passed where each is
-both_passed : (t u : Outcome (Unit {0})) → and_then t u ≡ Ok tt → (t ≡ Ok tt) × (u ≡ Ok tt)
+both_passed : (t u : Outcome (Unit {0})) → and_then t (λ _. u) ≡ Ok tt → (t ≡ Ok tt) × (u ≡ Ok tt)
 both_passed (Ok x) u e = (refl, e)
-both_passed (refused n p q) u e = absurd (told_apart e)
-
--- a test's refusal is handed on, and where it is passed the rest is told
-module _ {A : Type 0} (rest : Outcome A) {f : Filled} {t : Outcome (Unit {0})} where
-  pub handed : {r : Refusal} → outcome f ≡ t → f ≡ filled.Refused r → refused_by r ≡ and_then t rest
-  handed e k = rw (sym e ∙ ap outcome k)
-
-  pub passed : outcome f ≡ t → f ≡ filled.Done → and_then t rest ≡ rest
-  passed e k = rw (sym e ∙ ap outcome k)
-
-pub gave_done : {f : Filled} {t : Outcome (Unit {0})} → outcome f ≡ t → f ≡ filled.Done → t ≡ Ok tt
-gave_done e k = sym e ∙ ap outcome k
+both_passed (Err r) u e = cc
 
 module _ (value low high : ℕ) where
-  pub within_low : value < low → within_told value low high ≡ refused 3 value low
-  unfolding within_told
-  within_low h = rw (lt-ltb value low h)
+  pub in_range_passed : low ≤ value → value ≤ high → in_range value low high ≡ Ok tt
+  in_range_passed h k = rw (le-ltb value low h, le-ltb high value k)
 
-  pub within_high : low ≤ value → high < value → within_told value low high ≡ refused 3 value high
-  unfolding within_told
-  within_high h k = rw (le-ltb value low h, lt-ltb high value k)
-
-  pub within_passed : low ≤ value → value ≤ high → within_told value low high ≡ Ok tt
-  unfolding within_told
-  within_passed h k = rw (le-ltb value low h, le-ltb high value k)
-
-  pub within_fits : within_told value low high ≡ Ok tt → (low ≤ value) × (value ≤ high)
-  within_fits e = by (dec_lt value low) (dec_lt high value)
+  pub in_range_fits : in_range value low high ≡ Ok tt → (low ≤ value) × (value ≤ high)
+  in_range_fits e = by (dec_lt value low) (dec_lt high value)
     where
       by : Dec (value < low) → Dec (high < value) → (low ≤ value) × (value ≤ high)
-      by (yes h) d = absurd (told_apart (sym (within_low h) ∙ e))
-      by (no h) (yes k) = absurd (told_apart (sym (within_high (omega arith) k) ∙ e))
+      by (yes h) d = let f = rw (lt-ltb value low h) at e in cc
+      by (no h) (yes k) = let f = rw (le-ltb value low (omega arith), lt-ltb high value k) at e in cc
       by (no h) (no k) = (omega arith, omega arith)
+
+pub exact_passed : (number given wanted : ℕ) → given ≡ wanted → exact number given wanted ≡ Ok tt
+exact_passed number given wanted e = rw (eq-eqb given wanted e)
+
+pub exact_fits : (number given wanted : ℕ) → exact number given wanted ≡ Ok tt → given ≡ wanted
+exact_fits number given wanted e = by (ℕ_discrete given wanted)
+  where
+    by : Dec (given ≡ wanted) → given ≡ wanted
+    by (yes h) = h
+    by (no h) = let f = rw (ne_eqb given wanted h) at e in cc
 
 -- the limits of design values, as the tests leave them
 pub record Shaped (n_b k_b : ℕ) : Type 0 where
@@ -72,40 +54,34 @@ pub record Rated (n_b percent : ℕ) : Type 0 where
   pub most : n_b ≤ 64
   pub whole : percent ≤ 100
 
-pub shaped_fits : {n_b k_b : ℕ} → shaped_told n_b k_b ≡ Ok tt → Shaped n_b k_b
-unfolding shaped_told
-shaped_fits {n_b} {k_b} e =
-    let t = both_passed (within_told n_b 4 64) (within_told k_b 1 (n_b - 3)) e in
-    let width = within_fits n_b 4 64 t.0 in
-    let info = within_fits k_b 1 (n_b - 3) t.1 in
-    record { least = width.0; most = width.1; some = info.0; few = info.1 }
-
 pub rated_fits : {n_b percent : ℕ} → rated_told n_b percent ≡ Ok tt → Rated n_b percent
-unfolding rated_told
 rated_fits {n_b} {percent} e =
-    let t = both_passed (within_told n_b 4 64) (within_told percent 0 100) e in
-    let width = within_fits n_b 4 64 t.0 in
-    record { least = width.0; most = width.1; whole = (within_fits percent 0 100 t.1).1 }
-
-pub lifted_fits : {n_b k_b z : ℕ} → lifted_told n_b k_b z ≡ Ok tt → Shaped n_b k_b × (1 ≤ z)
-unfolding lifted_told
-lifted_fits {n_b} {k_b} {z} e =
-    let t = both_passed (shaped_told n_b k_b) (within_told z 1 65535) e in
-    (shaped_fits t.0, (within_fits z 1 65535 t.1).0)
+    let t = both_passed (in_range n_b 4 64) (in_range percent 0 100) e in
+    let width = in_range_fits n_b 4 64 t.0 in
+    record { least = width.0; most = width.1; whole = (in_range_fits percent 0 100 t.1).1 }
 
 -- the test of refusal 4
-module _ {A : Type 0} (rest : Outcome A) (m : ℕ) (rows : List ℕ) where
-  pub sound_passed : length rows ≤ first_fault m rows → if_sound m rows rest ≡ rest
-  unfolding if_sound
+module _ (m : ℕ) (rows : List ℕ) where
+  pub sound_passed : length rows ≤ first_fault m rows → sound_told m rows ≡ Ok tt
   sound_passed h = rw (le-ltb (first_fault m rows) (length rows) h)
 
-  pub sound_refused : first_fault m rows < length rows → if_sound m rows rest ≡ refused 4 (first_fault m rows / 3) (first_fault m rows % 3)
-  unfolding if_sound
-  sound_refused h = rw (lt-ltb (first_fault m rows) (length rows) h)
+  pub none_faulty : sound_told m rows ≡ Ok tt → (p : ℕ) → p < length rows → faulty m rows p ≡ false
+  unfolding first_fault
+  none_faulty e p l = by (dec_lt (first_fault m rows) (length rows))
+    where
+      by : Dec (first_fault m rows < length rows) → faulty m rows p ≡ false
+      by (yes h) = let f = rw (lt-ltb (first_fault m rows) (length rows) h) at e in cc
+      by (no h) = (first_least (faulty m rows) (length rows)).before p (omega arith)
 
-pub none_faulty : (m : ℕ) (rows : List ℕ) → length rows ≤ first_fault m rows → (p : ℕ) → p < length rows → faulty m rows p ≡ false
-unfolding first_fault
-none_faulty m rows h p l = (first_least (faulty m rows) (length rows)).before p (omega arith)
+-- the count by places is the count that is told
+pub counted : (n_b k_b z : ℕ) (rows shifts : List ℕ) → lifted_told n_b k_b z ≡ Ok tt → exact 5 (length rows) (3 * k_b) ≡ Ok tt
+    → exact 5 (length shifts) (3 * k_b) ≡ Ok tt → sound_told (n_b - k_b) rows ≡ Ok tt
+    → Ok (place_cycles rows shifts z k_b) ≡ cycles_told n_b k_b rows shifts z
+unfolding cycles_told
+counted n_b k_b z rows shifts limits long wide sound =
+    let e = exact_fits 5 (length rows) (3 * k_b) long in
+    rw (limits, long, wide, sound)
+    (ap Ok (once (n_b - k_b) k_b rows shifts z e (λ p l. none_faulty (n_b - k_b) rows sound p (omega arith))))
 
 -- the sizes of a graph within the limits
 pub record Sized (n_b k_b : ℕ) : Type 0 where
@@ -121,16 +97,4 @@ sized {n_b} {k_b} S =
       all = omega (arith, S.most, S.least, S.few);
       less = omega (arith, S.least, S.few);
       most = omega (arith, S.most, S.few);
-    }
-
--- the information columns for a rate are within the limits too
-pub columns_sized : {n_b percent : ℕ} → Rated n_b percent → Sized n_b (information_columns n_b percent)
-unfolding information_columns
-columns_sized {n_b} {percent} R =
-    let part = n_b * percent / 100 in
-    record {
-      rows = omega (arith, R.least);
-      all = omega (arith, R.least, R.most);
-      less = omega (arith, R.least);
-      most = omega (arith, R.least, R.most);
     }

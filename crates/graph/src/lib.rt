@@ -1,5 +1,6 @@
-// Graph design after the decoder: 01, "Graph design". Information columns are lent as 3 * k_b row bytes and as many 16-bit shifts.
-// Whatever a call refuses it leaves as it was. Assumes nothing.
+//! Graph design after the decoder: the rows of a base graph's information columns by edge growth, their shifts, and the count of
+//! four-cycles. Information columns are lent as 3 * k_b row bytes and as many 16-bit shifts. Whatever a call refuses it leaves as it was.
+//! Assumes nothing.
 #![tactic(auto)]
 
 mod assign;

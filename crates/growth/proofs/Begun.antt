@@ -2,12 +2,13 @@
 use mathlib.Core.Path.{◌≡◌, refl, sym, ap, ◌∙◌}
 use mathlib.Core.Bool.{Bool, true, false, cond, ◌||◌, or-false}
 use mathlib.Core.List.{List}
-use Prim.Native.Nat.{ℕ, zero, suc, ◌+◌, ◌*◌, ◌/◌, ◌%◌, ◌<◌, ◌≤◌}
+use Prim.Native.Nat.{ℕ, zero, suc, ◌+◌, ◌*◌, ◌/◌, ◌%◌, ◌-◌, ◌<◌, ◌≤◌}
 use native.Mathlib.Omega.{arith}
 use native.Mathlib.Numerals.{add-one}
 use native.Mathlib.Decide.{ℕ_discrete}
 use lib.Dec.{ltb, leb, eqb}
-use lib.ListN.{length, get_or, set, replicate, length-set, get_or-replicate}
+use lib.ListN.{length, get_or, set, take, drop, replicate, length-set, get_or-replicate}
+use Rattle.std.proofs.lemmas.Grind.{common_steps}
 use lib.Seq.{get_or-set_same, get_or-set_other}
 use borrow.Author.Tests.{lt-ltb, le-ltb, eq-eqb, ne_eqb, eqb-true, leb-false}
 use Rattle.laws.specs.Range.{some, count}
@@ -16,6 +17,11 @@ use Rattle.laws.proofs.Range.{count_ext}
 use Rattle.laws.proofs.Collect.{count_none}
 use Rattle.laws.proofs.Some.{never, false_if, or_left, or_right, some_from, some_has, some_none, count_one}
 use Rattle.growth.specs.Search.{begun, Queue, Begun, Listed}
+
+-- the rows of place p's column so far
+pub column_at : (rows : List ℕ) (p n : ℕ) → p ≤ length rows → n < p % 3
+    → get_or (take (p - 3 * (p / 3)) (drop (3 * (p / 3)) rows)) n 0 ≡ get_or rows (3 * (p / 3) + n) 0
+column_at rows p n h l = let a : 3 * (p / 3) + n < p = omega arith in grind (arith, common_steps)
 
 pub begun_first : {rows depth queue : List ℕ} {p : ℕ} → length depth ≡ 64 → length queue ≡ 64 → Begun rows p 0 depth depth queue
 unfolding some

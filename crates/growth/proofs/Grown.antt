@@ -9,7 +9,9 @@ use native.Mathlib.Decide.{ℕ_discrete}
 use lib.Dec.{eqb}
 use lib.ListN.{length, get_or, set, length-set, get_or-append}
 use lib.Seq.{get_or-set_same, get_or-set_other, get_or_at, ext_get_or}
-use borrow.Author.Tests.{lt-leb, ne_eqb, not-true}
+use borrow.Author.Tests.{lt-leb, lt-ltb, ne_eqb, not-true}
+use Rattle.std.specs.Prelude.{Option, Some}
+use Rattle.columns.specs.Found.{below}
 use Rattle.laws.specs.Columns.{faulty}
 use Rattle.laws.proofs.Collect.{count_most}
 use Rattle.laws.proofs.Foremost.{Lead, by_keys, lead_some}
@@ -152,6 +154,10 @@ module _ {m k : ℕ} {rows degree : List ℕ} {near : List Bool} {p : ℕ} (size
     pub growing_low : x < m
     growing_low = rw is_next (next_low m k (grown m k p) size)
 
+    -- so there is one to choose
+    pub growing_some : below m (chosen m near degree rows p) ≡ Some x
+    growing_some = rw (← next, lt-ltb x m growing_low)
+
     pub growing_few : get_or degree x 0 ≤ k + m
     unfolding edges_on
     growing_few = rw (G.degree_at x growing_low) (count_most (λ c. joins m k (grown m k p) c x) (k + m))
@@ -205,6 +211,9 @@ module _ {m k : ℕ} {rows degree : List ℕ} {near : List Bool} {p : ℕ} (size
             )
         edges r l (no q) =
             get_or-set_other degree x r (get_or degree x 0 + 1) 0 q ∙ G.degree_at r l ∙ sym (edges_same m k (grown m k p) x space r q)
+
+  pub growing_next_row : {x : ℕ} {o : Option ℕ} → o ≡ Some x → o ≡ below m (chosen m near degree rows p) → x ≡ chosen m near degree rows p
+  growing_next_row e f = let some = growing_some refl in cc
 
   pub growing_end : 3 * k ≤ p → rows ≡ rows_of m k
   unfolding rows_of

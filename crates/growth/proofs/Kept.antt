@@ -1,69 +1,43 @@
 -- The choice of a row, as a loop keeps the best so far. Assumes nothing.
-use mathlib.Core.Path.{◌≡◌, refl, sym, ◌∙◌}
-use mathlib.Core.Logic.{◌⊎◌, inl, inr, ⊎_elim}
-use mathlib.Core.Bool.{Bool, true, false, not, ◌&&◌, ◌||◌, true≢false}
-use Prim.Native.Nat.{ℕ, ◌+◌, ◌<◌, ◌≤◌}
+use mathlib.Core.Path.{◌≡◌, refl}
+use mathlib.Core.Bool.{Bool, true, false, ◌&&◌, true≢false}
+use Prim.Native.Nat.{ℕ, ◌+◌, ◌<◌}
 use native.Mathlib.Omega.{arith}
-use lib.Dec.{ltb, eqb}
 use borrow.Author.Count.{below_more}
-use borrow.Author.Tests.{eq-eqb, ne_eqb, le-ltb}
+use borrow.Author.Tests.{le-ltb, lt-ltb}
+use Rattle.std.specs.Prelude.{Option, Some, None, MatchOption, IfSome}
 use Rattle.laws.specs.Range.{foremost}
 use Rattle.laws.proofs.Foremost.{Order, Lead, lead_first, lead_skip, lead_keep, lead_take, lead_all, lead_none}
 use Rattle.laws.proofs.Some.{and_both}
+use Rattle.columns.specs.Found.{below}
+use Rattle.growth.specs.Search.{leads_over}
 
--- as deep, or less deep, than the best so far
-pub ahead_level : (b m x u y v : ℕ) → (x ≡ 0 → ⊥) → (b ≡ m → ⊥) → x ≤ y → x ≡ y
-    → ltb u v ≡ (not (eqb x 0) && (eqb b m || (ltb y x || eqb x y && ltb u v)))
-ahead_level b m x u y v h k l e = rw (ne_eqb x 0 h, ne_eqb b m k, le-ltb y x l, eq-eqb x y e)
+-- of the numbers below n the best one leads, or there is none and no number has p
+abbrev pub Best : (ℕ → Bool) → (ℕ → ℕ → Bool) → ℕ → Option ℕ → Type 0
+Best p ahead n best = MatchOption best ((q : ℕ) → q < n → p q ≡ false) (λ b. Lead p ahead n b)
 
-pub ahead_less : (b m x u y v : ℕ) → (x ≡ 0 → ⊥) → (b ≡ m → ⊥) → x ≤ y → (x ≡ y → ⊥)
-    → false ≡ (not (eqb x 0) && (eqb b m || (ltb y x || eqb x y && ltb u v)))
-ahead_less b m x u y v h k l e = rw (ne_eqb x 0 h, ne_eqb b m k, le-ltb y x l, ne_eqb x y e)
+module _ (p : ℕ → Bool) (ahead : ℕ → ℕ → Bool) where
+  pub best_take : (n : ℕ) (best : Option ℕ) → Order ahead → Best p ahead n best → (p n && leads_over ahead n best) ≡ true
+      → Best p ahead (n + 1) (Some n)
+  best_take n None O B t = lead_first p ahead n B (and_both (p n) true t).0 (O.self n)
+  best_take n (Some b) O B t = let both = and_both (p n) (ahead n b) t in lead_take p ahead n b B O both.0 both.1
 
--- of the numbers below n, b leads, or is m where none has p
-pub record Best (p : ℕ → Bool) (ahead : ℕ → ℕ → Bool) (m n b : ℕ) : Type 0 where
-  pub turn : n ≤ m
-  pub most : b ≤ m
-  pub best : ((b ≡ m) × ((q : ℕ) → q < n → p q ≡ false)) ⊎ Lead p ahead n b
-
-module _ {p : ℕ → Bool} {ahead : ℕ → ℕ → Bool} {m : ℕ} where
-  pub best_first : Best p ahead m 0 m
-  best_first = record { turn = omega arith; most = omega arith; best = inl (refl, λ q h. absurd (omega arith)) }
-
-  pub best_take : {n b : ℕ} → Order ahead → Best p ahead m n b → n < m → (p n && (eqb b m || ahead n b)) ≡ true → Best p ahead m (n + 1) n
-  best_take {n} {b} O B h t =
-      record {
-        turn = omega arith;
-        most = omega arith;
-        best =
-            inr (⊎_elim (λ w. lead_first p ahead n w.1 (and_both (p n) (eqb b m || ahead n b) t).0 (O.self n))
-            (λ L. led L)
-            B.best);
-      }
+  pub best_keep : (n : ℕ) (best : Option ℕ) → Best p ahead n best → (p n && leads_over ahead n best) ≡ false → Best p ahead (n + 1) best
+  best_keep n None B f = below_more (λ q. p q ≡ false) n B (none (p n) refl)
     where
-      led : Lead p ahead n b → Lead p ahead (n + 1) n
-      led L =
-          let both = and_both (p n) (eqb b m || ahead n b) t in
-          let e = ne_eqb b m (λ e. omega (arith, L.below)) in
-          lead_take p ahead n b L O both.0 (rw e at both.1)
-
-  pub best_keep : {n b : ℕ} → Best p ahead m n b → n < m → (p n && (eqb b m || ahead n b)) ≡ false → Best p ahead m (n + 1) b
-  best_keep {n} {b} B h f =
-      record {
-        turn = omega arith;
-        most = B.most;
-        best = ⊎_elim (λ w. inl (w.0, below_more (λ q. p q ≡ false) n w.1 (none w (p n) refl))) (λ L. inr (led L (p n) refl)) B.best;
-      }
+      none : (t : Bool) → p n ≡ t → p n ≡ false
+      none true e = absurd (true≢false (rw e at f))
+      none false e = e
+  best_keep n (Some b) B f = by (p n) refl
     where
-      none : (b ≡ m) × ((q : ℕ) → q < n → p q ≡ false) → (t : Bool) → p n ≡ t → p n ≡ false
-      none w true e = absurd (true≢false (rw (e, eq-eqb b m w.0) at f))
-      none w false e = e
+      by : (t : Bool) → p n ≡ t → Lead p ahead (n + 1) b
+      by false e = lead_skip p ahead n b B e
+      by true e = lead_keep p ahead n b B (rw e at f)
 
-      led : Lead p ahead n b → (t : Bool) → p n ≡ t → Lead p ahead (n + 1) b
-      led L false e = lead_skip p ahead n b L e
-      led L true e = lead_keep p ahead n b L (rw (e, ne_eqb b m (λ e. omega (arith, L.below))) at f)
+  pub best_end : (m : ℕ) (best : Option ℕ) → Best p ahead m best → best ≡ below m (foremost p ahead m)
+  best_end m None B = rw (lead_none p ahead m B, le-ltb m m (omega arith))
+  best_end m (Some b) B = rw (lead_all p ahead m b B, lt-ltb b m B.below)
 
-  pub best_end : {n b : ℕ} → Best p ahead m n b → m ≤ n → b ≡ foremost p ahead m
-  best_end {n} {b} B h =
-      let e : n ≡ m = omega (arith, B.turn) in
-      ⊎_elim (λ w. w.0 ∙ sym (lead_none p ahead m (rw e at w.1))) (λ L. sym (lead_all p ahead m b (rw e at L))) B.best
+  pub best_below : (n : ℕ) (best : Option ℕ) → Best p ahead n best → IfSome best (λ q. q < n)
+  best_below n None B = tt
+  best_below n (Some b) B = B.below

@@ -1,10 +1,10 @@
--- Progressive edge growth over a base graph of m rows and k information columns, after Hu, Eleftheriou and Arnold: 01, "Growth".
+-- Progressive edge growth over a base graph of m rows and k information columns, after Hu, Eleftheriou and Arnold.
 -- The rows chosen so far are a flat list, three a column; the next one is of column length rows / 3. Assumes nothing.
 use Rattle.std.specs.Prelude.{Bool, not, cond, ◌&&◌, ◌||◌, List, [], ◌∷◌, ◌++◌, ℕ, zero, suc, ◌+◌, ◌*◌, ◌/◌, ◌-◌, ltb, eqb, length}
 use Rattle.laws.specs.Range.{some, count, first, foremost}
 use Rattle.laws.specs.Columns.{has_row}
 
--- 01, "Base edges": parity column c, which is column k + c of the graph, has an edge on row r
+-- parity column c, which is column k + c of the graph, has an edge on row r
 unfoldable pub parity_has : ℕ → ℕ → ℕ → Bool
 parity_has m c r = cond (eqb c 0) (eqb r 0 || eqb r (m - 1) || eqb r (m / 2)) (eqb r c || eqb (r + 1) c)
 

@@ -1,6 +1,6 @@
 -- What the functions of growth say of their lists: which rows share a column, as a square of 64 rows of 64 tests; the queue of a
 -- search; and the choice of a row. Assumes nothing.
-use Rattle.std.specs.Prelude.{◌≡◌, Bool, false, not, cond, ◌&&◌, ◌||◌, List, ℕ, ◌+◌, ◌*◌, ◌/◌, ◌%◌, ◌-◌, ◌<◌, ◌≤◌, ltb, eqb, length, get_or}
+use Rattle.std.specs.Prelude.{◌≡◌, Bool, true, false, not, cond, ◌&&◌, ◌||◌, List, Option, Some, None, ℕ, ◌+◌, ◌*◌, ◌/◌, ◌%◌, ◌-◌, ◌<◌, ◌≤◌, ltb, eqb, length, get_or}
 use Rattle.laws.specs.Range.{some, count, foremost}
 use Rattle.growth.specs.Growth.{steps, ahead_by}
 
@@ -64,6 +64,11 @@ pub record Begun (rows : List ℕ) (p n : ℕ) (depth depth' queue' : List ℕ) 
   pub long : length queue' ≡ 64
   pub at : (r : ℕ) → get_or depth' r 0 ≡ cond (some (λ e. eqb (get_or rows (3 * (p / 3) + e) 0) r) n) 0 (get_or depth r 0)
   pub front : (j : ℕ) → j < n → get_or queue' j 0 ≡ get_or rows (3 * (p / 3) + j) 0
+
+-- row r goes before the best one so far, or there is none
+abbrev pub leads_over : (ℕ → ℕ → Bool) → ℕ → Option ℕ → Bool
+leads_over ahead r None = true
+leads_over ahead r (Some q) = ahead r q
 
 -- the row to choose, by those lists
 unfoldable pub chosen : ℕ → List Bool → List ℕ → List ℕ → ℕ → ℕ

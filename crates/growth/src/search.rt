@@ -1,80 +1,88 @@
 // A breadth-first search over the rows: the fewest steps that lead from a column's rows so far to each row.
-ghost use Rattle.std.specs.Prelude.{◌≡◌, false, ◌&&◌, ℕ, ◌*◌, ◌+◌, ◌/◌, ◌%◌, ◌<◌, ◌≤◌, eqb, length, get_or};
+ghost use Rattle.std.specs.Prelude.{◌≡◌, ◌&&◌, ℕ, ◌+◌, ◌-◌, ◌%◌, ◌<◌, ◌≤◌, eqb, length, get_or, replicate};
 ghost use Rattle.growth.specs.Growth.{steps};
 ghost use Rattle.growth.specs.Search.{meets, Queue, Spread, Begun};
 
-// Puts the rows of place p's column so far into the queue, at depth 0.
-pub fn begin(rows: &[u8], p: usize, depth: &mut [u8], queue: &mut [u8])
-    requires p_in_bounds { (p ≤ length rows.now) × ((j : ℕ) → j < p → get_or rows.now j 0 < 64) }
-    requires depth_len { (length depth.old ≡ 64) × (length queue.old ≡ 64) }
-    ensures { Begun rows.now p (p % 3) depth.old depth.new queue.new }
-{
-    let mut e = 0;
-    while e < p % 3 {
-        let r = rows[3 * (p / 3) + e];
-        depth[numbers::wide8(r)] = 0;
-        queue[e] = r;
-        e += 1;
-    }
+use crate::base_rows::BaseRows;
+use crate::row_queue::RowQueue;
+use crate::shared::Shared;
+
+#[derive(Clone, Copy)]
+pub struct Search {
+    pub base: BaseRows,
+    pub depth: [u8; 64],
+    pub queue: RowQueue,
+    pub ghost deep: { length depth ≡ 64 },
 }
 
-// Row r is not reached yet, and shares a column with the row whose tests begin at `base`.
-fn is_open(m_b: usize, near: &[bool], base: usize, r: usize, depth: &[u8]) -> bool
-    requires { (base + r < length near.now) × (r < length depth.now) }
-    ensures { result ≡ (get_or near.now (base + r) false && eqb (get_or depth.now r 0) m_b) }
-{
-    if near[base + r] {
-        numbers::wide8(depth[r]) == m_b
-    } else {
-        false
-    }
-}
-
-// Reaches the open rows from the row at `head`, and gives the queue's new end.
-fn spread(
-    m_b: usize,
-    near: &[bool],
-    head: usize,
-    end: usize,
-    depth: &mut [u8],
-    queue: &mut [u8],
-) -> usize
-    requires { (m_b ≤ 64) × (head < end) × (length near.now ≡ 4096) × Queue m_b depth.old queue.old head end }
-    ensures { Queue m_b depth.new queue.new head result
-        × Spread m_b near.now (get_or queue.old head 0) m_b depth.old queue.old end
-        depth.new queue.new result }
-{
-    let q = numbers::wide8(queue[head]);
-    let next = depth[q] + 1;
-    let mut tail = end;
-    let mut r = 0;
-    while r < m_b {
-        if is_open(m_b, near, 64 * q, r, depth) {
-            depth[r] = next;
-            queue[tail] = r as u8;
-            tail += 1;
+impl Search {
+    // No row is reached.
+    pub fn new(base: BaseRows) -> Search
+        ensures { (result.base.m_b ≡ base.m_b) × (result.depth ≡ replicate 64 base.m_b) × (result.queue.head ≡ 0) × (result.queue.tail ≡ 0) }
+    {
+        Search {
+            base,
+            depth: [base.m_b as u8; 64],
+            queue: RowQueue::new(),
         }
-        r += 1;
     }
-    tail
-}
 
-// The search from the first `end` rows of the queue. It ends when every row is reached, or none waits.
-pub fn search(m_b: usize, near: &[bool], end: usize, depth: &mut [u8], queue: &mut [u8])
-    requires le_m_b { (3 ≤ m_b) × (m_b ≤ 64) × (length near.now ≡ 4096) × Queue m_b depth.old queue.old 0 end }
-    requires by_index { (r : ℕ) → r < m_b → get_or depth.old r 0 < m_b → get_or depth.old r 0 ≡ 0 }
-    ensures { (r : ℕ)
-        → r < m_b
-        → get_or depth.new r 0
-        ≡ steps m_b (meets near.now) (λ q. eqb (get_or depth.old q 0) 0) r }
-{
-    let mut head = 0;
-    let mut tail = end;
-    while head < tail {
-        tail = spread(m_b, near, head, tail, depth, queue);
-        if tail == m_b {
-            return;
+    // Puts the rows of place p's column so far into the queue, at depth 0.
+    pub fn begin(&mut self, rows: &[u8], p: usize)
+        requires empty { (self.old.queue.head ≡ 0) × (self.old.queue.tail ≡ 0) }
+        requires before { (p ≤ length rows.now) × ((j : ℕ) → j < p → get_or rows.now j 0 < 64) }
+        ensures begun { Begun rows.now p (p % 3) self.old.depth self.new.depth self.new.queue.rows }
+        ensures ends { (self.new.queue.head ≡ 0) × (self.new.queue.tail ≡ p % 3) × (self.new.base.m_b ≡ self.old.base.m_b) }
+    {
+        for r in &rows[3 * (p / 3)..p] {
+            self.depth[usize::from(*r)] = 0;
+            self.queue.push(*r);
         }
-        head += 1;
+    }
+
+    // Row r is not reached yet, and shares a column with row q.
+    fn is_open(&self, shared: &Shared, q: usize, r: usize) -> bool
+        requires { (q < 64) × (r < 64) }
+        ensures { result ≡ (meets shared.now.near q r && eqb (get_or self.now.depth r 0) self.now.base.m_b) }
+    {
+        shared.meets(q, r) && usize::from(self.depth[r]) == self.base.m_b
+    }
+
+    // Reaches the open rows from row q, the last to leave the queue.
+    fn spread(&mut self, shared: &Shared, q: usize)
+        requires left { (1 ≤ self.old.queue.head) × (self.old.queue.head ≤ self.old.queue.tail) × (q ≡ get_or self.old.queue.rows (self.old.queue.head - 1) 0) }
+        requires queued { Queue self.old.base.m_b self.old.depth self.old.queue.rows (self.old.queue.head - 1) self.old.queue.tail }
+        ensures ends { (self.new.base.m_b ≡ self.old.base.m_b) × (self.new.queue.head ≡ self.old.queue.head) }
+        ensures queued { Queue self.new.base.m_b self.new.depth self.new.queue.rows (self.old.queue.head - 1) self.new.queue.tail }
+        ensures reached { Spread self.old.base.m_b shared.now.near q self.old.base.m_b self.old.depth self.old.queue.rows self.old.queue.tail self.new.depth self.new.queue.rows self.new.queue.tail }
+    {
+        let next = self.depth[q] + 1;
+        let mut tail = self.queue.tail;
+        for r in 0..self.base.m_b {
+            if self.is_open(shared, q, r) {
+                self.depth[r] = next;
+                self.queue.put(tail, r as u8);
+                tail += 1;
+            }
+        }
+        self.queue.end_at(tail);
+    }
+
+    // Ends when every row is reached, or none waits.
+    pub fn run(&mut self, shared: &Shared)
+        requires queued { (self.old.queue.head ≡ 0) × Queue self.old.base.m_b self.old.depth self.old.queue.rows 0 self.old.queue.tail }
+        requires start { (r : ℕ) → r < self.old.base.m_b → get_or self.old.depth r 0 < self.old.base.m_b → get_or self.old.depth r 0 ≡ 0 }
+        ensures { (r : ℕ)
+            → r < self.old.base.m_b
+            → get_or self.new.depth r 0
+            ≡ steps self.old.base.m_b (meets shared.now.near) (λ q. eqb (get_or self.old.depth q 0) 0) r }
+    {
+        // A `while`: the queue grows as it is worked off, so there is no range and no list to go over.
+        while let Some(q) = self.queue.pop() {
+            self.spread(shared, usize::from(q));
+            if self.queue.tail == self.base.m_b {
+                return;
+            }
+        }
     }
 }

@@ -1,4 +1,4 @@
--- The shift generator: 01, "Shifts". Assumes nothing.
+-- The shift generator. Assumes nothing.
 use Rattle.std.specs.Prelude.{ℕ, zero, suc, ◌+◌, ◌*◌, ◌/◌, ◌%◌, ◌^◌}
 
 -- a step: the product and the sum wrap at 64 bits

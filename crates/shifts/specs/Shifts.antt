@@ -1,4 +1,4 @@
--- The choice of shifts for the rows of a graph's information columns: 01, "Shifts". The shifts placed so far are a flat list; the next
+-- The choice of shifts for the rows of a graph's information columns. The shifts placed so far are a flat list; the next
 -- one is of place length shifts. Assumes nothing.
 use Rattle.std.specs.Prelude.{ℕ, zero, suc, ◌+◌, ◌*◌, ◌/◌, ◌%◌, min, true, cond, ◌&&◌, List, [], ◌∷◌, ◌++◌, length, ◌==◌, nat_eq, nat_lt, slice_index, slice_index_or}
 use Rattle.laws.specs.Range.{sum, count, first, foremost}

@@ -6,7 +6,8 @@ const MULTIPLIER: u64 = 6364136223846793005;
 
 const INCREMENT: u64 = 1442695040888963407;
 
-// a * b modulo 2^64, from halves of 32 bits; the product of the high halves falls away.
+// a * b modulo 2^64, from halves of 32 bits; the product of the high halves falls away. In parts, and not std's, by a rule of the
+// project.
 fn wrapping_mul(a: u64, b: u64) -> u64
     ensures { result ≡ a * b % 2 ^ 64 }
 {
@@ -29,5 +30,6 @@ pub fn next_state(state: u64) -> u64
 pub fn draw_of(state: u64) -> u16
     ensures { result ≡ draw_of state }
 {
+    // below 512, so the cast loses nothing
     (state / 8589934592 % 512) as u16
 }

@@ -1,10 +1,11 @@
-// The shift generator and the choice of shifts: 01, "Shifts". `choose_shifts` is pub only because the crate graph calls it; its
-// callers meet what it requires. Assumes nothing else.
+//! The shift generator and the choice of shifts. `choose_shifts` is pub only because the crate graph calls it; its callers meet what it
+//! requires. Assumes nothing else.
 #![tactic(auto)]
 
 mod biases;
 mod generator;
 mod place;
+mod placed;
 mod search;
 mod weights;
 

@@ -2,11 +2,35 @@
 // d + 1022.
 ghost use Rattle.std.specs.Prelude.{◌≡◌, ℕ, ◌+◌, ◌<◌, length, replicate, if◌then◌else◌, slice_index};
 ghost use Rattle.laws.specs.Columns.{congruent};
+ghost use Rattle.shifts.specs.Shifts.{weight};
 ghost use Rattle.shifts.specs.Biases.{Weights};
 
 const TEST_Z: [u16; 17] = [
     2, 3, 4, 5, 6, 7, 8, 12, 16, 24, 32, 48, 64, 96, 128, 256, 324,
 ];
+
+// Not `Copy`, as it is large.
+#[derive(Drop)]
+pub struct WeightTable {
+    weights: [u16; 2045],
+    ghost filled: { Weights weights },
+}
+
+impl WeightTable {
+    pub fn new() -> WeightTable {
+        let mut weights: [u16; 2045] = [0; 2045];
+        fill_weights(&mut weights);
+        WeightTable { weights }
+    }
+
+    // What the d at a place costs.
+    pub fn weight(&self, i: usize) -> usize
+        requires { i < 2045 }
+        ensures { result ≡ weight i 1022 }
+    {
+        usize::from(self.weights[i])
+    }
+}
 
 // Adds 1 to each d that the lift z divides.
 fn add_lift(z: usize, weights: &mut [u16])
@@ -14,6 +38,7 @@ fn add_lift(z: usize, weights: &mut [u16])
     ensures { (i : ℕ) → i < 2045 → slice_index weights.new i ≡ slice_index weights.old i + (if congruent z i 1022 then 1 else 0) }
 {
     let mut i = 1022 % z;
+    // A `while`: in a `for` by `step_by(z)` the proof loses where the loop stands (tried).
     while i < 2045 {
         weights[i] += 1;
         i += z;
@@ -21,15 +46,12 @@ fn add_lift(z: usize, weights: &mut [u16])
 }
 
 // Writes the table over zeros.
-pub fn fill_weights(weights: &mut [u16])
+fn fill_weights(weights: &mut [u16])
     requires { weights.old ≡ replicate 2045 0 }
     ensures { Weights weights.new }
 {
-    let lifts = &TEST_Z;
-    let mut t = 0;
-    while t < 17 {
-        add_lift(numbers::wide16(lifts[t]), weights);
-        t += 1;
+    for z in &TEST_Z {
+        add_lift(usize::from(*z), weights);
     }
     weights[1022] = 1000;
 }

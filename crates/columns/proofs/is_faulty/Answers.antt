@@ -1,19 +1,21 @@
 -- `is_faulty` meets its contract. Assumes nothing.
-use mathlib.Core.Path.{sym, ap, ◌∙◌}
-use Prim.Native.Nat.{ℕ, ◌%◌}
+use Rattle.std.proofs.Common.{◌∙◌, ◌*◌, ◌/◌, ◌%◌, ◌<◌, arith, get_or, nat_eq}
 use borrow.Author.Tests.{le-leb, lt-leb}
-use lib.Dec.{ltb}
 use Rattle.laws.specs.Columns.{faulty}
-use Rattle.laws.proofs.Some.{some_first}
+use Rattle.columns.proofs.Found.{any_part}
 use Rattle.columns.proofs.is_faulty.Goals as goal
 
-pub returns-then-m_b-wide8 : goal.returns-then-m_b-wide8
+pub returns-then-m_b-from : goal.returns-then-m_b-from
 unfolding faulty
-returns-then-m_b-wide8 c = rw (le-leb _ _ (rw c.wide8.ensures at c.if-m_b-wide8.true))
+returns-then-m_b-from c =
+    let row = get_or c.args.rows.now c.args.p 0 in
+    rw (c.from.ensures, le-leb c.args.m_b row (omega (arith, c.from.ensures, c.if-m_b-from.true)))
 
-pub returns : goal.returns
+pub returns-else-m_b-from : goal.returns-else-m_b-from
 unfolding faulty
-returns c =
-    let p = c.args.p in
-    ap (λ (e : ℕ). ltb e (p % 3)) c.find.ensures ∙ sym (some_first _ (p % 3))
-    ∙ (rw (lt-leb _ _ (rw c.wide8.ensures at c.if-m_b-wide8.false)))
+returns-else-m_b-from c =
+    let row = get_or c.args.rows.now c.args.p 0 in
+    let low : row < c.args.m_b = omega (arith, c.from.ensures, c.if-m_b-from.false) in
+    rw (lt-leb _ _ low)
+    (c.contains.ensures.value
+    ∙ any_part (λ r. nat_eq r row) c.args.rows.now (3 * (c.args.p / 3)) (c.args.p % 3) (omega arith))

@@ -1,16 +1,11 @@
--- `four_cycles` meets its contract. Assumes nothing.
-use mathlib.Core.Path.{sym, ◌∙◌}
-use Rattle.graph.specs.Calls.{cycles_told}
-use Rattle.graph.proofs.Tested.{handed, passed, gave_done}
+-- `four_cycles` meets its contract: past its tests the count by places is the count by rows. Assumes nothing.
+use Rattle.std.proofs.Common.{sym, ap, ◌∙◌}
+use Rattle.std.specs.Prelude.{Ok}
+use Rattle.graph.proofs.Tested.{counted}
 use Rattle.graph.proofs.count.four_cycles.Goals as goal
 
-pub count_tested-requires : goal.count_tested-requires
-count_tested-requires c = gave_done c.lifted.ensures c.in-Ok.is
-
-pub returns-in-Err : goal.returns-in-Err
-unfolding cycles_told
-returns-in-Err c = handed _ c.lifted.ensures c.in-Err.is
-
-pub returns-in-Ok : goal.returns-in-Ok
-unfolding cycles_told
-returns-in-Ok c = c.count_tested.ensures ∙ sym (passed _ c.lifted.ensures c.in-Ok.is)
+pub returns : goal.returns
+returns c =
+    ap Ok c.count_cycles.ensures
+    ∙ counted c.args.n_b c.args.k_b c.args.z c.args.rows.now c.args.shifts.now (sym c.in_ok-lifted.ensures) (sym c.in_ok-input.ensures)
+    (sym c.in_ok-input-2.ensures) (sym c.in_ok-sound.ensures)

@@ -2,4 +2,4 @@
 use Rattle.shifts.proofs.place.next_shift.Goals as goal
 
 pub returns : goal.returns
-returns c = c.search.ensures _ _ c.collect_biases-n.ensures.costs
+returns c = c.search.ensures _ _ c.collect_biases.ensures.costs

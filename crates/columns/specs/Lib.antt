@@ -1,0 +1,2 @@
+-- Places that are looked for. Assumes nothing.
+pub mod Found

@@ -1,0 +1,57 @@
+// The rows of a base graph, and what the parity columns give before any row is chosen, in closed form: the rows that share one, and the
+// edges of a row.
+ghost use Rattle.std.specs.Prelude.{◌≡◌, ℕ, ◌<◌, ◌≤◌, length, get_or};
+ghost use Rattle.growth.specs.Search.{meets, ends, beside, parity_edges};
+
+#[derive(Clone, Copy)]
+pub struct BaseRows {
+    pub m_b: usize,
+    pub ghost sizes: { (3 ≤ m_b) × (m_b ≤ 64) },
+}
+
+impl BaseRows {
+    // Row r is of parity column 0.
+    #[tactic(auto, unfolding(crate::specs::Search::ends))]
+    fn is_end(&self, r: usize) -> bool
+        ensures { result ≡ ends self.now.m_b r }
+    {
+        r == 0 || r == self.m_b - 1 || r == self.m_b / 2
+    }
+
+    // Rows q and r share a parity column: each later one has two rows that follow each other.
+    #[tactic(auto, unfolding(crate::specs::Search::beside))]
+    fn are_beside(&self, q: usize, r: usize) -> bool
+        requires { (q < 64) × (r < 64) }
+        ensures { result ≡ beside self.now.m_b q r }
+    {
+        q == r || q + 1 == r || r + 1 == q || self.is_end(q) && self.is_end(r)
+    }
+
+    // Fills in which rows share a parity column.
+    pub fn fill_near(&self, near: &mut [bool])
+        requires { length near.old ≡ 4096 }
+        ensures { (q r : ℕ) → q < self.now.m_b → r < 64 → meets near.new q r ≡ beside self.now.m_b q r }
+    {
+        for i in 0..64 * self.m_b {
+            near[i] = self.are_beside(i / 64, i % 64);
+        }
+    }
+
+    // Row m_b / 2 is in parity column 0 besides two others; each other row is in two.
+    #[tactic(auto, unfolding(crate::specs::Search::parity_edges))]
+    fn parity_edges(&self, r: usize) -> u8
+        ensures { result ≡ parity_edges self.now.m_b r }
+    {
+        if r == self.m_b / 2 { 3 } else { 2 }
+    }
+
+    // Fills in the edges of each row.
+    pub fn fill_degree(&self, degree: &mut [u8])
+        requires { length degree.old ≡ 64 }
+        ensures { (r : ℕ) → r < self.now.m_b → get_or degree.new r 0 ≡ parity_edges self.now.m_b r }
+    {
+        for r in 0..self.m_b {
+            degree[r] = self.parity_edges(r);
+        }
+    }
+}
