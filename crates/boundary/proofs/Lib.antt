@@ -1,4 +1,2 @@
--- The laws of records and answers. Assumes nothing.
-pub mod Fronts
-pub mod Answered
+-- A record read back. Assumes nothing.
 pub mod Back

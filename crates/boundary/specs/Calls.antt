@@ -1,7 +1,7 @@
 -- What the calls of the C boundary tell: the tests of the slices of fixed size, then what the call of the library tells of the
 -- record in the numbers. `a` is the size of the answer. Assumes nothing.
 use Rattle.std.specs.Prelude.{cond, List, ℕ, eqb, Float}
-use Rattle.refusals.specs.Outcome.{Outcome, if_length}
+use Rattle.refusals.specs.Outcome.{Outcome, and_then, exact}
 use Rattle.ldpc.specs.declared.choice.Code.{Code}
 use Rattle.ldpc.specs.Choice.{chosen}
 use Rattle.coder.specs.Calls.{listed, unsatisfied_told, encode_told}
@@ -14,7 +14,7 @@ use Rattle.boundary.specs.Answers.{work_told, put_told, if_answer, if_code, if_d
 
 -- the code's record is written to `room` numbers
 unfoldable pub code_at : ℕ → ℕ → ℕ → ℕ → Outcome Code
-code_at rate n room a = if_answer a (if_length 9 room 6 (chosen rate n))
+code_at rate n room a = if_answer a (and_then (exact 9 room 6) (λ _. chosen rate n))
 
 unfoldable pub work_at : List ℕ → ℕ → Outcome ℕ
 work_at code a = if_answer a (if_code code work_told)
@@ -34,7 +34,7 @@ encode_at code info room a = if_answer a (if_code code (λ c. encode_told c info
 
 -- the decode's record is written to `room` numbers
 unfoldable pub start_at : List ℕ → List Float → ℕ → ℕ → ℕ → Outcome Decode
-start_at code rx work room a = if_answer a (if_code code (λ c. if_length 9 room 8 (start_told c rx work)))
+start_at code rx work room a = if_answer a (if_code code (λ c. and_then (exact 9 room 8) (λ _. start_told c rx work)))
 
 unfoldable pub grant_at : List ℕ → ℕ → List Float → ℕ → Outcome Decode
 grant_at decode g w a = if_answer a (if_decode decode (λ d. grant_told d g w))

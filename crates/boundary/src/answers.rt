@@ -1,78 +1,81 @@
-// What a call answers, told in numbers: 0 and the results, or the refusal's number and its pair.
-ghost use Rattle.std.specs.Prelude.{◌≡◌, ◌∷◌, [], length};
-ghost use Rattle.refusals.specs.Outcome.{numbers_of, outcome};
-ghost use Rattle.boundary.specs.Answers.{decode_numbers, result_numbers, one, none, number_told, numbers_told, front, after_by};
+// What a call answers, told in numbers: 0 and its results, or the refusal's number and its pair.
+ghost use Rattle.std.specs.Prelude.{◌≡◌, List, ℕ};
+ghost use Rattle.refusals.specs.Outcome.{outcome};
+ghost use Rattle.boundary.specs.Answers.{none, one, result_numbers, front, number_told, answered};
 
+use decoder::{Decode, DecodeResult};
+use ldpc::Code;
 use refusals::Refusal;
 
-// Tells a refusal's pair, and answers its number.
-pub fn refuse(refusal: Refusal, answer: &mut [usize]) -> usize
-    requires { length answer.old ≡ 3 }
-    ensures value { result ≡ (numbers_of refusal).number }
-    ensures answer_after { answer.new ≡ front ((numbers_of refusal).first ∷ (numbers_of refusal).second ∷ []) answer.old }
-{
-    let n = refusal.numbers();
-    answer[0] = n.first;
-    answer[1] = n.second;
-    n.number
+// How many numbers an answer has.
+pub const ANSWER: usize = 3;
+
+// The refusal of an answer of another size, which has no place for the pair.
+pub const OUTPUT: usize = 9;
+
+// What a call gives, as numbers at the front of its answer.
+pub trait Answer: Drop {
+    ghost numbers: { Self → List ℕ };
+
+    fn write(self, answer: &mut [usize; ANSWER])
+        ensures { answer.new ≡ front (numbers self) answer.old };
 }
 
-// The answer of a call that only fills what it is lent.
-pub fn filled(f: Result<(), Refusal>, answer: &mut [usize]) -> usize
-    requires { length answer.old ≡ 3 }
-    ensures value { result ≡ number_told (outcome f) }
-    ensures answer_after { answer.new ≡ front (numbers_told none (outcome f)) answer.old }
-{
-    match f {
-        Ok(()) => 0,
-        Err(r) => refuse(r, answer),
+// A call that only fills what it is lent.
+impl Answer for () {
+    ghost numbers = { none };
+
+    fn write(self, _answer: &mut [usize; ANSWER]) {}
+}
+
+// A call that counts.
+impl Answer for usize {
+    ghost numbers = { one };
+
+    fn write(self, answer: &mut [usize; ANSWER]) {
+        answer[0] = self;
     }
 }
 
-// The answer of a call that counts.
-pub fn counted(count: Result<usize, Refusal>, answer: &mut [usize]) -> usize
-    requires { length answer.old ≡ 3 }
-    ensures value { result ≡ number_told (outcome count) }
-    ensures answer_after { answer.new ≡ front (numbers_told one (outcome count)) answer.old }
-{
-    match count {
-        Ok(n) => {
-            answer[0] = n;
-            0
-        }
-        Err(r) => refuse(r, answer),
+// A read.
+impl Answer for DecodeResult {
+    ghost numbers = { result_numbers };
+
+    fn write(self, answer: &mut [usize; ANSWER]) {
+        answer[0] = usize::from(self.iterations);
+        answer[1] = usize::from(self.converged);
+        answer[2] = usize::from(self.clean);
     }
 }
 
-// The answer of a read.
-pub fn result(read: Result<DecodeResult, Refusal>, answer: &mut [usize]) -> usize
-    requires { length answer.old ≡ 3 }
-    ensures value { result ≡ number_told (outcome read) }
-    ensures answer_after { answer.new ≡ front (numbers_told result_numbers (outcome read)) answer.old }
-{
-    match read {
-        Ok(x) => {
-            answer[0] = x.iterations as usize;
-            answer[1] = crate::records::bit_of(x.converged);
-            answer[2] = crate::records::bit_of(x.clean);
-            0
-        }
-        Err(r) => refuse(r, answer),
-    }
+// A call whose record stands in a slice of its own.
+impl Answer for Code {
+    ghost numbers = { none };
+
+    fn write(self, _answer: &mut [usize; ANSWER]) {}
 }
 
-// The answer of a start or a grant, whose record is written.
-pub fn granted(more: Result<Decode, Refusal>, fields: &mut [usize], answer: &mut [usize]) -> usize
-    requires { (length fields.old ≡ 8) × (length answer.old ≡ 3) }
-    ensures value { result ≡ number_told (outcome more) }
-    ensures fields_after { fields.new ≡ after_by (outcome more) decode_numbers fields.old }
-    ensures answer_after { answer.new ≡ front (numbers_told none (outcome more)) answer.old }
+impl Answer for Decode {
+    ghost numbers = { none };
+
+    fn write(self, _answer: &mut [usize; ANSWER]) {}
+}
+
+// Tells what a call gave, or the pair of its refusal, and answers the number.
+pub fn tell<A: Answer>(given: Result<A, Refusal>, answer: &mut [usize; ANSWER]) -> usize
+    ensures value { result ≡ number_told (outcome given) }
+    ensures answer_after { answer.new ≡ answered A.numbers (outcome given) answer.old }
 {
-    match more {
-        Ok(d) => {
-            crate::records::put_decode(d, fields);
+    match given {
+        Ok(results) => {
+            results.write(answer);
             0
         }
-        Err(r) => refuse(r, answer),
+        Err(refusal) => {
+            let n = refusal.numbers();
+            answer[0] = n.first;
+            answer[1] = n.second;
+            n.number
+        }
     }
 }

@@ -1,69 +1,78 @@
 // Records read from numbers, and written to them.
-ghost use Rattle.std.specs.Prelude.{◌≡◌, true, ◌≤◌, length};
-ghost use Rattle.matrix.specs.Encoding.{bit};
-ghost use Rattle.boundary.specs.Answers.{code_numbers, code_in, decode_numbers, decode_in, is_decode, front};
+ghost use Rattle.std.specs.Prelude.{◌≡◌, Ok};
+ghost use Rattle.refusals.specs.Outcome.{outcome};
+ghost use Rattle.boundary.specs.Answers.{code_numbers, decode_numbers, if_code, if_decode};
 
 use decoder::Decode;
 use ldpc::Code;
+use refusals::Refusal;
 
-// The code record in the first six numbers.
-pub fn code_in(fields: &[usize]) -> Code
-    requires { 6 ≤ length fields.now }
-    ensures { result ≡ code_in fields.now }
+// How many numbers a code record has, and a decode record.
+pub const CODE: usize = 6;
+
+pub const DECODE: usize = 8;
+
+// The code record in six numbers.
+#[tactic(auto, unfolding(crate::specs::Answers::code_in))]
+pub fn code_of(numbers: &[usize]) -> Result<Code, Refusal>
+    ensures { outcome result ≡ if_code numbers.now (λ c. Ok c) }
 {
-    Code {
-        rate: fields[0],
-        n_tx: fields[1],
-        family: fields[2],
-        z: fields[3],
-        k: fields[4],
-        shortened: fields[5],
+    let [rate, n_tx, family, z, k, shortened] = *numbers else {
+        return Err(Refusal::Input {
+            given: numbers.len(),
+            wanted: CODE,
+        });
+    };
+    Ok(Code {
+        rate,
+        n_tx,
+        family,
+        z,
+        k,
+        shortened,
+    })
+}
+
+// The decode record in eight numbers, whose last two are iterations of 16 bits and a bit.
+#[tactic(auto, unfolding(crate::specs::Answers::code_in, crate::specs::Answers::decode_in, crate::specs::Answers::is_decode))]
+pub fn decode_of(numbers: &[usize]) -> Result<Decode, Refusal>
+    ensures { outcome result ≡ if_decode numbers.now (λ d. Ok d) }
+{
+    let [rate, n_tx, family, z, k, shortened, iterations, converged] = *numbers else {
+        return Err(Refusal::Input {
+            given: numbers.len(),
+            wanted: DECODE,
+        });
+    };
+    let code = Code {
+        rate,
+        n_tx,
+        family,
+        z,
+        k,
+        shortened,
+    };
+    match (u16::try_from(iterations), converged) {
+        (Ok(iterations), 0 | 1) => Ok(Decode {
+            code,
+            iterations,
+            converged: converged == 1,
+        }),
+        _ => Err(Refusal::Record { rate, n_tx }),
     }
 }
 
-// Whether the two numbers after a code record are iterations and a bit.
-pub fn is_decode(fields: &[usize]) -> bool
-    requires { length fields.now ≡ 8 }
-    ensures { result ≡ is_decode fields.now }
+pub fn code_numbers(c: Code) -> [usize; CODE]
+    ensures { result ≡ code_numbers c }
 {
-    (fields[6] < 65536) & (fields[7] < 2)
+    [c.rate, c.n_tx, c.family, c.z, c.k, c.shortened]
 }
 
-pub fn decode_in(fields: &[usize]) -> Decode
-    requires { (length fields.now ≡ 8) × (is_decode fields.now ≡ true) }
-    ensures { result ≡ decode_in fields.now }
+pub fn decode_numbers(d: Decode) -> [usize; DECODE]
+    ensures { result ≡ decode_numbers d }
 {
-    Decode {
-        code: code_in(fields),
-        iterations: fields[6] as u16,
-        converged: fields[7] == 1,
-    }
-}
-
-pub fn put_code(c: Code, fields: &mut [usize])
-    requires { 6 ≤ length fields.old }
-    ensures { fields.new ≡ front (code_numbers c) fields.old }
-{
-    fields[0] = c.rate;
-    fields[1] = c.n_tx;
-    fields[2] = c.family;
-    fields[3] = c.z;
-    fields[4] = c.k;
-    fields[5] = c.shortened;
-}
-
-// A bit, as a number.
-pub fn bit_of(b: bool) -> usize
-    ensures { result ≡ bit b }
-{
-    if b { 1 } else { 0 }
-}
-
-pub fn put_decode(d: Decode, fields: &mut [usize])
-    requires { 8 ≤ length fields.old }
-    ensures { fields.new ≡ front (decode_numbers d) fields.old }
-{
-    put_code(d.code, fields);
-    fields[6] = d.iterations as usize;
-    fields[7] = bit_of(d.converged);
+    let [rate, n_tx, family, z, k, shortened] = code_numbers(d.code);
+    let iterations = usize::from(d.iterations);
+    let converged = usize::from(d.converged);
+    [rate, n_tx, family, z, k, shortened, iterations, converged]
 }

@@ -3,6 +3,9 @@ ghost use Rattle.std.specs.Prelude.{◌≡◌, length};
 ghost use Rattle.boundary.specs.Answers.{result_numbers, number_told, answered};
 ghost use Rattle.boundary.specs.Calls.{decode_at, decoded_memory, decoded_word};
 
+use boundary::{OUTPUT, tell};
+
+#[tactic(auto, unfolding(boundary::specs::Calls::decode_at, boundary::specs::Calls::decoded_memory, boundary::specs::Calls::decoded_word))]
 #[unsafe(no_mangle)]
 pub extern "C" fn fuyegbo_decode(
     rate: usize,
@@ -18,9 +21,8 @@ pub extern "C" fn fuyegbo_decode(
     ensures out_after { out.new ≡ decoded_word rate n_tx rx.now limit work.old out.old (length answer.old) }
     ensures answer_after { answer.new ≡ answered result_numbers (decode_at rate n_tx rx.now limit work.old (length out.old) (length answer.old)) answer.old }
 {
-    if answer.len() != 3 {
-        return 9;
-    }
-    let read = decoder::decode(rate, n_tx, rx, limit, work, out);
-    boundary::result(read, answer)
+    let Some(answer) = answer.as_mut_array() else {
+        return OUTPUT;
+    };
+    tell(decoder::decode(rate, n_tx, rx, limit, work, out), answer)
 }

@@ -5,6 +5,9 @@ ghost use Rattle.shifts.specs.Shifts.{shifts_of};
 ghost use Rattle.graph.specs.Calls.{shifts_told};
 ghost use Rattle.boundary.specs.Answers.{none, number_told, answered, if_answer};
 
+use boundary::{OUTPUT, tell};
+
+#[tactic(auto, unfolding(graph::specs::Calls::shifts_written))]
 #[unsafe(no_mangle)]
 pub extern "C" fn fuyegbo_assign_shifts(
     n_b: usize,
@@ -15,12 +18,11 @@ pub extern "C" fn fuyegbo_assign_shifts(
     answer: &mut [usize],
 ) -> usize
     ensures value { result ≡ number_told (if_answer (length answer.old) (shifts_told n_b k_b rows.now (length shifts.old))) }
-    ensures shifts_after { shifts.new ≡ after (if_answer (length answer.old) (shifts_told n_b k_b rows.now (length shifts.old))) (shifts_of rows.now seed (3 * k_b)) shifts.old }
+    ensures shifts_after { shifts.new ≡ after (if_answer (length answer.old) (shifts_told n_b k_b rows.now (length shifts.old))) (λ _. shifts_of rows.now seed (3 * k_b)) shifts.old }
     ensures answer_after { answer.new ≡ answered none (if_answer (length answer.old) (shifts_told n_b k_b rows.now (length shifts.old))) answer.old }
 {
-    if answer.len() != 3 {
-        return 9;
-    }
-    let done = graph::assign_shifts(n_b, k_b, rows, seed, shifts);
-    boundary::filled(done, answer)
+    let Some(answer) = answer.as_mut_array() else {
+        return OUTPUT;
+    };
+    tell(graph::assign_shifts(n_b, k_b, rows, seed, shifts), answer)
 }

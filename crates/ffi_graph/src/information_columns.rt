@@ -3,6 +3,8 @@ ghost use Rattle.std.specs.Prelude.{◌≡◌, length};
 ghost use Rattle.graph.specs.Calls.{columns_told};
 ghost use Rattle.boundary.specs.Answers.{one, number_told, answered, if_answer};
 
+use boundary::{OUTPUT, tell};
+
 #[unsafe(no_mangle)]
 pub extern "C" fn fuyegbo_information_columns(
     n_b: usize,
@@ -12,8 +14,8 @@ pub extern "C" fn fuyegbo_information_columns(
     ensures value { result ≡ number_told (if_answer (length answer.old) (columns_told n_b percent)) }
     ensures answer_after { answer.new ≡ answered one (if_answer (length answer.old) (columns_told n_b percent)) answer.old }
 {
-    if answer.len() != 3 {
-        return 9;
-    }
-    boundary::counted(graph::information_columns(n_b, percent), answer)
+    let Some(answer) = answer.as_mut_array() else {
+        return OUTPUT;
+    };
+    tell(graph::information_columns(n_b, percent), answer)
 }

@@ -1,12 +1,16 @@
-// The C boundary of graph design: information columns, growth and shifts, as include/fuyegbo.h declares it. Every function
-// tests the slices of fixed size first, then calls the library. Assumes of its callers what the header asks: slices that hold
-// as many elements as they say, and that do not overlap.
+// The C boundary of graph design, as include/fuyegbo.h declares it: information columns, growth, shifts, whole designs and their
+// four-cycles. Every function tests the answer's size first, then calls the library. Assumes of its callers what the header asks:
+// slices that hold as many elements as they say, and that do not overlap.
 #![tactic(auto)]
 
 mod assign_shifts;
+mod build;
+mod four_cycles;
 mod information_columns;
 mod peg;
 
 pub use assign_shifts::fuyegbo_assign_shifts;
+pub use build::fuyegbo_build;
+pub use four_cycles::fuyegbo_four_cycles;
 pub use information_columns::fuyegbo_information_columns;
 pub use peg::fuyegbo_peg;

@@ -1,1 +1,0 @@
--- Nothing but the functions' proofs. Assumes nothing.
