@@ -259,6 +259,7 @@ parity_is c m =
     let S = sized c m in
     let s = (code_graph c).shape in
     omega (arith, S.parity, add-mul s.k_b s.m_b c.z, ap (λ (x : ℕ). x * c.z) S.shape.columns)
+
 -- the information and the parity columns of a code's graph fill the block, and the information fits its columns
 pub parity_fills : (c : Code) → made c ≡ true → (g : BaseGraph) → g ≡ code_graph c → c.k + g.shape.m_b * c.z ≡ c.n_tx
 parity_fills c m g e = rw e (sized c m).parity
