@@ -83,7 +83,7 @@ module _ (c : Code) (info : List ℕ) (i : ℕ) (parity next total parity' next'
     (e : parity ≡ stairs c info i) (N : Holds c.z (stair_bit c info i) next) (T : Holds c.z (total_bit c info) total)
     (W : Written 0 (i * c.z) (λ t. t < c.z) (λ t. get_or next t 0) parity parity')
     (M : (t : ℕ) → t < c.z → get_or next' t 0
-        ≡ differing (differing (get_or parity (i * c.z + t) 0) (get_or next t 0)) (cond (eqb i ((code_graph c).shape.m_b / 2)) (get_or total t 0) 0)) where
+    ≡ differing (differing (get_or parity (i * c.z + t) 0) (get_or next t 0)) (cond (eqb i ((code_graph c).shape.m_b / 2)) (get_or total t 0) 0)) where
   before : (s : ℕ) → get_or parity s 0 ≡ get_or (stairs c info i) s 0
   before s = ap (λ (l : List ℕ). get_or l s 0) e
 
