@@ -1,5 +1,5 @@
 -- A part of a list that was lent and is put back: what is written there, and nowhere else. Assumes nothing.
-use mathlib.Core.Path.{◌≡◌, refl, sym, ap, ap₂, ◌∙◌, subst}
+use mathlib.Core.Path.{◌≡◌, sym, ap, ap₂, ◌∙◌, subst}
 use mathlib.Core.List.{List, ◌++◌}
 use Prim.Native.Nat.{ℕ, ◌+◌, ◌-◌, ◌<◌, ◌≤◌}
 use native.Mathlib.Omega.{arith}
@@ -7,7 +7,7 @@ use native.Mathlib.Decide.{dec_lt}
 use borrow.Rule.Slice.PartMut.{put_mid}
 use lib.ListN.{length, get_or, take, drop}
 use lib.Seq.{drop-drop}
-use Rattle.laws.specs.Written.{Written, tabulate, rewritten}
+use Rattle.laws.specs.Written.{Written, rewritten}
 use Rattle.laws.proofs.Written.{tabulated, length_rewritten, low_rewritten, at_rewritten, high_rewritten}
 
 -- a list that is rewritten is written there

@@ -6,7 +6,7 @@ use Prim.Native.Nat.{ℕ, ◌<◌, ◌≤◌}
 use borrow.Author.Tests.{lt-ltb, le-ltb}
 use Rattle.std.specs.Prelude.{Ok}
 use lib.ListN.{length, drop}
-use Rattle.refusals.specs.Outcome.{Outcome, refused}
+use Rattle.refusals.specs.Outcome.{refused}
 use Rattle.ldpc.specs.Choice.{made, if_made}
 use Rattle.laws.specs.Range.{count, collect}
 use Rattle.laws.proofs.Collect.{length_collect}

@@ -1,8 +1,7 @@
 -- `staircase` meets its contract: the sums, T, p_0, and row by row the rest. Assumes nothing.
-use Rattle.std.proofs.Common.{◌≡◌, ℕ, ◌+◌, ◌*◌, ◌-◌, ◌/◌, ap, sym, subst, ◌∙◌, arith, length, replicate, eqb}
+use Rattle.std.proofs.Common.{◌≡◌, ℕ, ◌+◌, ◌*◌, ◌-◌, ◌/◌, ap, sym, subst, ◌∙◌, arith, replicate, eqb}
 use Rattle.matrix.specs.Edges.{edges}
 use Rattle.bits.specs.Sums.{Bits}
-use Rattle.bits.specs.Rows.{Stepped}
 use Rattle.ldpc.specs.Code.{code_graph, checks_of}
 use Rattle.edge_sums.specs.Sums.{sums_of}
 use Rattle.edge_sums.proofs.Summed.{sums_bits}

@@ -1,5 +1,5 @@
 -- `check_members` meets its contract: the members are counted, and then written. Assumes nothing.
-use Rattle.std.proofs.Common.{◌≡◌, ℕ, List, sym, ap, ap₂, ◌∙◌, ◌++◌, arith, length, drop}
+use Rattle.std.proofs.Common.{◌≡◌, sym, ap, ap₂, ◌∙◌, ◌++◌, length, drop}
 use Rattle.laws.specs.Range.{count, collect}
 use Rattle.matrix.specs.Edges.{edges}
 use Rattle.ldpc.specs.Code.{code_graph, checks_of}
