@@ -1,5 +1,5 @@
--- The bit pass in one, column after column: 01, "Iteration". A place x counts from the totals on: below N it is a bit's total, from N on the message
--- to a check at slot x - N. Assumes nothing.
+-- The bit pass of an iteration in one, column after column. A place x counts from the totals on: below N it is a bit's total, from N on
+-- the message to a check at slot x - N. Assumes nothing.
 use Rattle.std.specs.Prelude.{cond, List, ℕ, ◌+◌, ◌/◌, ◌%◌, ◌-◌, ◌<◌, ltb, Float}
 use Rattle.std.specs.Float.{nan, binary32}
 use Rattle.std.specs.Float.Ieee.{sub}

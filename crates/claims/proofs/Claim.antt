@@ -1,4 +1,4 @@
--- Demand 3 as one theorem on every list of calls: `broken_off`. Beside it, that what lies past the needed numbers is untouched, and
+-- The claim of grants as one theorem on every list of calls: `broken_off`. Beside it, that what lies past the needed numbers is untouched, and
 -- that the one call is a start, a grant and a read. Assumes nothing.
 use Rattle.std.specs.Prelude.{Ok, Err}
 use mathlib.Core.Path.{◌≡◌, refl, sym, ap, ap₂, ◌∙◌}
@@ -149,7 +149,7 @@ pub starts : (c : Code) (rx : List Float) (room : ℕ) → made c ≡ true → l
 unfolding start_told if_work
 starts c rx room m l h = made_passed _ c m ∙ length_passed _ 5 (length rx) c.n_tx l ∙ (rw (le-ltb room (work_of c) h))
 
--- 01, "Lists": for every list of calls after an accepted start, the answers are those owed, and what is held is the unbroken decode
+-- for every list of calls after an accepted start, the answers are those owed, and what is held is the unbroken decode
 -- limited to the running sum
 module _ (c : Code) (rx w : List Float) (lent : ℕ) (d : Decode) (start : start_told c rx (length (take lent w)) ≡ Ok d) where
   given_start : Accepted c rx (length (take lent w)) d

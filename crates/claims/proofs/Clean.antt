@@ -1,4 +1,4 @@
--- Demand 3: every accepted read, whatever its record and its memory, shows clean exactly when it shows converged and its word is the
+-- The claim of clean: every accepted read, whatever its record and its memory, shows clean exactly when it shows converged and its word is the
 -- encoding of its own information bits. Assumes nothing.
 use Rattle.std.specs.Prelude.{Ok}
 use mathlib.Core.Path.{◌≡◌, sym, subst}

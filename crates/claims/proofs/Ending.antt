@@ -1,4 +1,4 @@
--- Demand 3's last sentence, over lists: where no reading is NaN and the negative ones are exactly the ones of a codeword, every accepted
+-- The noiseless block, over lists: where no reading is NaN and the negative ones are exactly the ones of a codeword, every accepted
 -- read after a list whose accepted grants sum to 1 or more gives that word, 1 iteration, converged and clean. Assumes nothing.
 use Rattle.std.specs.Prelude.{Ok}
 use mathlib.Core.Path.{◌≡◌, sym, ap, ◌∙◌}

@@ -1,4 +1,4 @@
--- The theorems of demand 3. Assumes nothing.
+-- The theorems on grants, on clean and on noiseless blocks. Assumes nothing.
 pub mod Whole
 pub mod Cases
 pub mod Claim

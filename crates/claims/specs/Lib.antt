@@ -1,2 +1,2 @@
--- The claim of demand 3. Assumes nothing.
+-- The claim of grants over a list of calls. Assumes nothing.
 pub mod Claim

@@ -1,4 +1,4 @@
--- The decode record and the run that it stands for, and what a read tells: 01, "Read". Assumes nothing.
+-- The decode record and the run that it stands for, and what a read tells. Assumes nothing.
 use Rattle.std.specs.Prelude.{◌&&◌, List, eqb, Float}
 use Rattle.laws.specs.Run.{Progress}
 use Rattle.ldpc.specs.declared.choice.Code.{Code}

@@ -1,4 +1,4 @@
--- What the checks of a base row write: 01, "Iteration". Assumes nothing.
+-- What the checks of a base row write in an iteration. Assumes nothing.
 use Rattle.std.specs.Prelude.{List, ℕ, ◌/◌, ◌<◌, Float}
 use Rattle.std.specs.Float.{nan}
 use Rattle.laws.specs.Written.{Written, At}

@@ -1,4 +1,4 @@
--- The starred rows of 01's commissioning table hold of the definitions: one test, which the checker computes over the whole
+-- The starred rows of the commissioning table hold of the definitions: one test, which the checker computes over the whole
 -- table, and a law that gives it of each row. What a decode finds in its memory makes no difference. Assumes nothing.
 use mathlib.Core.Path.{◌≡◌, refl}
 use mathlib.Core.Bool.{xor}
@@ -44,7 +44,7 @@ unfolding xor lt add mul sum xor_sum count collect folded information_columns ta
     among readings table same_word is_refused meets has_sizes same_result reads_as holds all_hold
 table_holds w = tt
 
--- 01: "Starred rows, 13"
+-- there are thirteen
 pub thirteen : length table ≡ 13
 unfolding table
 thirteen = refl

@@ -1,4 +1,4 @@
--- The starred rows of 01's commissioning table, and the test that a row holds of the definitions. Assumes nothing.
+-- The starred rows of the commissioning table, and the test that a row holds of the definitions. Assumes nothing.
 use Rattle.std.specs.Prelude.{Ok, Err, Bool, true, false, ◌&&◌, ◌||◌, List, [], ◌∷◌, ℕ, eqb, ℤ, pos, Float}
 use Rattle.std.specs.Bool.{beq}
 use Rattle.std.proofs.Math.Option.{Option, none, some}
@@ -14,9 +14,9 @@ use Rattle.word.specs.Word.{word_of}
 use Rattle.runs.specs.Runs.{alpha, unbroken}
 use Rattle.decoder.specs.Decoding.{result_of}
 
--- what 01 says of a rate and n_tx
+-- what the table says of a rate and n_tx
 pub data Row : Type 0 where
-  -- Choice refuses, by 01's number and its pair
+  -- Choice refuses, by its number and its pair
   refuses : (rate n number first second : ℕ) → Row
   -- Choice gives a code of a family (0 large, 1 small, 2 tiny); not every row says the lift and the shortened count
   gives : (rate n family : ℕ) (z : Option ℕ) (k : ℕ) (shortened : Option ℕ) → Row
@@ -33,7 +33,7 @@ among i (j ∷ l) = eqb i j || among i l
 unfoldable pub readings : ℕ → ℕ → ℤ → List ℕ → List Float
 readings n m e places = tabulate (λ i. fin (among i places) m e) n
 
--- 01, "Commissioning table": its starred rows, in its order (100,000,000 is 390625 × 2 ^ 8)
+-- its starred rows, in its order (100,000,000 is 390625 × 2 ^ 8)
 unfoldable pub table : List Row
 table =
     refuses 0 3 1 1 3 ∷
@@ -64,7 +64,7 @@ unfoldable pub is_refused : Outcome Code → ℕ → ℕ → ℕ → Bool
 is_refused (Ok c) number first second = false
 is_refused (Err e) number first second = eqb e.number number && eqb e.first first && eqb e.second second
 
--- what 01 leaves unsaid is met by any number
+-- what the table leaves unsaid is met by any number
 unfoldable pub meets : ℕ → Option ℕ → Bool
 meets n none = true
 meets n (some m) = eqb n m

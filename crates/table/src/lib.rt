@@ -1,2 +1,2 @@
-// No code: the starred rows of 01's commissioning table, and the check over all of them.
+// No code: the starred rows of the commissioning table, and the check over all of them.
 #![tactic(auto)]

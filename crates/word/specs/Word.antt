@@ -1,4 +1,4 @@
--- The word that a read writes: 01, "Read". Assumes nothing.
+-- The word that a read writes. Assumes nothing.
 use Rattle.std.specs.Prelude.{cond, List, ℕ, ◌+◌, ◌-◌, ltb, Float}
 use Rattle.laws.specs.Written.{tabulate}
 use Rattle.matrix.specs.Encoding.{bit}
@@ -6,7 +6,7 @@ use Rattle.messages.specs.Iteration.{decision}
 use Rattle.ldpc.specs.declared.choice.Code.{Code}
 use Rattle.ldpc.specs.Code.{code_graph, info_end}
 
--- 01, "Read": the n_tx decisions in transmitted order
+-- the n_tx decisions in transmitted order
 unfoldable pub word_of : Code → List Float → List ℕ
 word_of c w =
     tabulate (λ i. bit (decision (code_graph c) c.z w (cond (ltb i c.k) i (info_end c + (i - c.k))))) c.n_tx
