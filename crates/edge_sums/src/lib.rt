@@ -47,10 +47,11 @@ fn add_column(g: &CodeGraph, column: usize, word: Bits<'_>, sums: &mut [u8])
     requires { (column < g.now.graph.shape.k_b) × (sums.old ≡ sums_of g.now.code.code word.bytes.now (3 * column)) }
     ensures { sums.new ≡ sums_of g.now.code.code word.entry.bytes.now (3 * (column + 1)) }
 {
+    let z = g.code.code.z;
     let part = column_part(g, column, word);
     for b in 3 * column..3 * column + 3 {
         let e = g.info_edge(b);
-        add_edge(e, g.code.code.z, part, sums);
+        add_edge(e, z, part, sums);
     }
 }
 
