@@ -21,6 +21,10 @@ to_bits_at g z = 2 * bits_of g z + slots_of g z
 unfoldable pub needed : BaseGraph → ℕ → ℕ
 needed g z = 2 * bits_of g z + 2 * slots_of g z
 
+-- number s of a region that is lent
+abbrev pub number : List Float → ℕ → Float
+number r s = get_or r s nan
+
 -- number s of the region that begins at a place
 abbrev pub reading : List Float → ℕ → ℕ → Float
 reading w at s = get_or w (at + s) nan
