@@ -1,3 +1,2 @@
 -- The laws of the bit pass, column after column. Assumes nothing.
 pub mod ByColumns
-pub mod ColumnLists

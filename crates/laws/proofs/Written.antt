@@ -226,6 +226,18 @@ module _ {A : Type 0} (d : A) (base n : ℕ) (f : ℕ → A) (w : List A) (fits 
       ∙ past d (tabulate f n) (drop (base + n) w) n j (length_tabulate f n) ∙ get_or-drop (base + n) w j d
       ∙ ap (λ (k : ℕ). get_or w k d) (add_assoc base n j)
 
+  -- it is written there
+  pub written_rewritten : Written d base (λ s. s < n) f w (rewritten base n f w)
+  written_rewritten = record { long = length_rewritten; at = at_rewritten; off = λ i h. off i h (dec_lt i base) }
+    where
+      off : (i : ℕ) → ((s : ℕ) → s < n → i ≡ base + s → ⊥) → Dec (i < base) → get_or (rewritten base n f w) i d ≡ get_or w i d
+      off i h (yes k) = low_rewritten i k
+      off i h (no k) = by (dec_lt i (base + n))
+        where
+          by : Dec (i < base + n) → get_or (rewritten base n f w) i d ≡ get_or w i d
+          by (yes l) = absurd (h (i - base) (omega arith) (omega arith))
+          by (no l) = let e : base + (n + (i - (base + n))) ≡ i = omega arith in rw e at (high_rewritten (i - (base + n)))
+
   -- writes at every slot below n give the list rewritten there
   pub whole : {w' : List A} → Written d base (λ s. s < n) f w w' → w' ≡ rewritten base n f w
   whole {w'} W = ext_get_or d w' (rewritten base n f w) (W.long ∙ sym length_rewritten) (λ i h. at i (dec_lt i base) (dec_lt i (base + n)))

@@ -1,4 +1,4 @@
--- The checks of a lifted word hold exactly where its parity columns are the staircase of its information: 01, "Encoding".
+-- The checks of a lifted word hold exactly where its parity columns are the staircase of its information.
 -- Assumes nothing.
 use mathlib.Core.Path.{◌≡◌, refl, sym, ap, ap₂, ◌∙◌}
 use mathlib.Core.Bool.{Bool, false, cond, xor, ◌&&◌}

@@ -1,4 +1,4 @@
--- 01, "Transmitted order": a check's list has exactly the transmitted bits that the matrix joins to it, each once, in edge order;
+-- A check's list has exactly the transmitted bits that the matrix joins to it, each once, in edge order;
 -- and the places lie in the transmitted word. Assumes nothing.
 use mathlib.Core.Path.{◌≡◌, refl, sym, ap, ◌∙◌}
 use mathlib.Core.Bool.{Bool, true, ◌&&◌, and-eq-true_iff}

@@ -1,5 +1,6 @@
--- The parity-check matrix at lift z, over the bits of a lifted word: 01, "Base edges", "Transmitted order". Check s is
--- the offset s % z of base row s / z. Assumes nothing.
+-- The parity-check matrix at lift z, over the bits of a lifted word, quasi-cyclic (Fossorier, 2004): a base edge of row r, column c
+-- and shift s joins check r * z + t to bit c * z + (t + s) mod z, for each t below z. Check s is the offset s % z of base row s / z.
+-- Assumes nothing.
 use Rattle.std.specs.Prelude.{◌≡◌, Bool, cond, ◌&&◌, ◌||◌, List, ℕ, ◌+◌, ◌*◌, ◌/◌, ◌%◌, ◌-◌, ◌<◌, ltb, leb, eqb, get_or}
 use Rattle.laws.specs.Range.{xor_sum, count, collect}
 use Rattle.tables.specs.declared.BaseGraph.{BaseGraph}
@@ -24,7 +25,7 @@ check_sum g z w s = row_sum g z w (edges g) (s / z) (s % z)
 unfoldable pub unmet : BaseGraph → ℕ → (ℕ → Bool) → ℕ
 unmet g z w = count (check_sum g z w) (g.shape.m_b * z)
 
--- 01, "Transmitted order": bits 0 to k - 1, then from k on the parity columns' bits, which begin at `info` in the lifted word
+-- the transmitted order: bits 0 to k - 1, then from k on the parity columns' bits, which begin at `info` in the lifted word
 unfoldable pub is_sent : ℕ → ℕ → ℕ → Bool
 is_sent k info v = ltb v k || leb info v
 
@@ -35,7 +36,7 @@ place_of k info v = cond (ltb v k) v (k + (v - info))
 unfoldable pub lifted : ℕ → ℕ → List ℕ → ℕ → Bool
 lifted k info word v = is_sent k info v && eqb (get_or word (place_of k info v) 0) 1
 
--- 01: the transmitted members of check s, in edge order
+-- the transmitted members of check s, in edge order
 unfoldable pub members_of : BaseGraph → ℕ → ℕ → ℕ → ℕ → List ℕ
 members_of g z k info s =
     collect (λ b. eqb (edge_row g b) (s / z) && is_sent k info (bit_at g z b (s % z))) (λ b. place_of k info (bit_at g z b (s % z))) (edges g)

@@ -1,4 +1,5 @@
--- The base edges of a graph, by their numbers: 01, "Base edges". Assumes nothing.
+-- The base edges of a graph, by their numbers: three for each information column, in the table's order, then those of the parity
+-- columns. Assumes nothing.
 use Rattle.std.specs.Prelude.{◌≡◌, cond, List, [], ◌++◌, ℕ, zero, suc, ◌+◌, ◌*◌, ◌/◌, ◌%◌, ◌-◌, ◌<◌, ltb, eqb, length, get_or}
 use Rattle.laws.specs.Range.{collect}
 use Rattle.laws.specs.Columns.{parity_row}
@@ -38,6 +39,6 @@ pub record ColumnList (g : BaseGraph) (v : ℕ) (l : List ℕ) : Type 0 where
   pub rising : (i : ℕ) → i + 1 < length l → edge_row g (get_or l i 0) < edge_row g (get_or l (i + 1) 0)
   pub all : (b : ℕ) → b < edges g → edge_column g b ≡ v → (i : ℕ) × (i < length l) × (get_or l i 0 ≡ b)
 
--- 01, "Work memory": the slot, b * z + t, at which base edge b joins bit v of its column; t turned by the shift is v's offset
+-- the slot, b * z + t, at which base edge b joins bit v of its column; t turned by the shift is v's offset
 unfoldable pub slot_of : BaseGraph → ℕ → ℕ → ℕ → ℕ
 slot_of g z b v = b * z + (v % z + z - edge_shift g b % z) % z

@@ -1,4 +1,4 @@
--- The encoding by sums and the staircase: 01, "Encoding". The information stands in the bits w of the lifted word below
+-- The encoding by sums and the staircase. The information stands in the bits w of the lifted word below
 -- k_b * z. Assumes nothing.
 use Rattle.std.specs.Prelude.{Bool, true, false, cond, ◌&&◌, List, ℕ, zero, suc, ◌+◌, ◌*◌, ◌/◌, ◌%◌, ◌-◌, ltb, eqb, get_or}
 use Rattle.std.specs.Bool.{xor}
@@ -25,7 +25,7 @@ parity_bit g z w zero t = first_parity g z w t
 parity_bit g z w (suc i) t =
     xor (xor (info_sum g z w i t) (parity_bit g z w i t)) (eqb i (g.shape.m_b / 2) && first_parity g z w ((t + 1) % z))
 
--- 01, "Bit": a bit as a byte
+-- a bit as a byte
 abbrev pub bit : Bool → ℕ
 bit true = 1
 bit false = 0

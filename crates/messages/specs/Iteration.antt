@@ -1,5 +1,5 @@
--- One iteration of normalised min-sum (Chen and Fossorier), for a graph at lift z: 01, "Iteration". The factor is an argument.
--- Assumes nothing.
+-- One iteration of normalised min-sum (Chen and Fossorier, 2002), for a graph at lift z: every check sends to its bits, every bit
+-- adds up what it got and sends to its checks. The factor is an argument. Assumes nothing.
 use Rattle.std.specs.Prelude.{Bool, cond, List, ℕ, ◌+◌, ◌*◌, ◌/◌, ◌%◌, eqb, get_or, Float}
 use Rattle.std.specs.Float.{nan, binary32}
 use Rattle.std.specs.Float.Ieee.{add, sub}
@@ -39,7 +39,7 @@ total g z w v = folded (added g z (reading w (to_bits_at g z)) v) (get_or w v na
 unfoldable pub total_pass : BaseGraph → ℕ → List Float → List Float
 total_pass g z w = rewritten (bits_of g z) (bits_of g z) (total g z w) w
 
--- 01, "Start": each message to a check is its bit's channel value
+-- at the start each message to a check is its bit's channel value
 unfoldable pub of_bit : BaseGraph → ℕ → List Float → ℕ → Float
 of_bit g z w s = get_or w (bit_at g z (s / z) (s % z)) nan
 

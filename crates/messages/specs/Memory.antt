@@ -1,4 +1,4 @@
--- 01, "Work memory": its four regions, for a graph at lift z. Assumes nothing.
+-- The work memory and its four regions, for a graph at lift z. Assumes nothing.
 use Rattle.std.specs.Prelude.{List, ℕ, ◌+◌, ◌*◌, get_or, Float}
 use Rattle.std.specs.Float.{nan}
 use Rattle.tables.specs.declared.BaseGraph.{BaseGraph}

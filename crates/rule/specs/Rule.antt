@@ -1,4 +1,4 @@
--- The check rule of normalised min-sum (Chen and Fossorier), one message at a time: 01, "Iteration". Assumes nothing.
+-- The check rule of normalised min-sum (Chen and Fossorier, 2002), one message at a time. Assumes nothing.
 use Rattle.std.specs.Prelude.{◌≡◌, false, cond, ℕ, eqb, Float}
 use Rattle.std.specs.Bool.{xor}
 use Rattle.std.specs.Float.{inf, binary32}

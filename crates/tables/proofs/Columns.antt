@@ -1,4 +1,4 @@
--- 01, "Graphs": in every column the three rows differ and lie below m_b, and shifts lie below 512. Each is one test that is
+-- In every column the three rows differ and lie below m_b, and shifts lie below 512. Each is one test that is
 -- computed over all the columns, and a law that gives it at any graph and entry. Assumes nothing.
 use mathlib.Core.Path.{◌≡◌, sym}
 use mathlib.Core.Bool.{Bool, true, false, not, cond}
