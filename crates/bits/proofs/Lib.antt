@@ -3,4 +3,3 @@ pub mod Bytes
 pub mod Above
 pub mod Row
 pub mod Turned
-pub mod Put

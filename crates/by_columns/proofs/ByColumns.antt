@@ -1,17 +1,18 @@
 -- The bit pass column after column: what a column's list of base edges comes to, one column more, and the whole. Assumes nothing.
 use mathlib.Core.Path.{◌≡◌, refl, sym, ap, ap₂, ◌∙◌, subst}
-use mathlib.Core.List.{List, ◌++◌}
+use mathlib.Core.List.{List}
 use Prim.Native.Nat.{ℕ, ◌+◌, ◌*◌, ◌-◌, ◌/◌, ◌%◌, ◌<◌, ◌≤◌}
 use native.Mathlib.Nat.{mod-lt, add-mod-mod, zero-add}
 use native.Mathlib.Omega.{arith}
+use borrow.Rule.Slice.PartMut.{put_mid}
 use lib.ListN.{length, take, drop, get_or}
 use lib.Ieee.{Float, nan, add, sub, binary32}
 use lib.Seq.{get_or-take, get_or-drop}
 use Rattle.laws.specs.Range.{folded}
-use Rattle.laws.specs.Written.{Written, At, tabulate, rewritten}
+use Rattle.laws.specs.Written.{Written, At, tabulate}
 use Rattle.laws.proofs.Folded.{folded_ext}
 use Rattle.laws.proofs.Slots.{slot_lt, slot_div, slot_mod, slot_is, edge_lt, row_le}
-use Rattle.laws.proofs.Written.{Upto, upto_run, upto_all, same, block, tabulated, get_d_tabulate, tabulate_ext, written_rewritten}
+use Rattle.laws.proofs.Written.{Upto, upto_run, upto_all, same, block, tabulated, get_d_tabulate, length_tabulate, put_written}
 use Rattle.tables.specs.declared.BaseGraph.{BaseGraph}
 use Rattle.matrix.specs.Edges.{edges, edge_column, edge_shift, bit_at, slot_of, edges_by_row, ColumnList}
 use Rattle.matrix.proofs.ByColumn.{by_column}
@@ -50,15 +51,13 @@ module _ (g : BaseGraph) (z : ℕ) (lift : 0 < z) (simple : Simple g) (channel t
           ∙ ap (λ y. total_over (number to_bits) z turn j y l) (get_or-take z (drop (v * z) channel) j nan h ∙ get_or-drop (v * z) channel j nan)
           ∙ total_is j h
 
-      pub totals_done : (w w' : List Float) → bits_of g z ≤ length w → w' ≡ take (v * z) w ++ (t ++ drop (v * z + z) w) → TotalsDone g z channel to_bits v w w'
-      unfolding bits_of rewritten
-      totals_done w w' long e =
+      pub totals_done : (w : List Float) (n : ℕ) → n ≡ z → bits_of g z ≤ length w → TotalsDone g z channel to_bits v w (put_mid (v * z) n w t)
+      unfolding bits_of
+      totals_done w n k long =
           let here : v * z + z ≤ bits_of g z = row_le z v_lt in
-          let split : w' ≡ rewritten (v * z) z (λ j. number t j) w =
-              e ∙ ap (λ x. take (v * z) w ++ (x ++ drop (v * z + z) w)) (is ∙ tabulate_ext _ _ z (λ j h. sym (ap (λ x. number x j) is ∙ get_d_tabulate nan _ z j h))) in
-          subst (λ x. TotalsDone g z channel to_bits v w x) (sym split)
-          (block z v (total_of g z channel to_bits) lift (rw zero-add (written_rewritten nan (v * z) z (λ j. number t j) w (omega (arith, long))))
-          (λ j h. omega (arith, here)) own_at)
+          block z v (total_of g z channel to_bits) lift
+          (rw zero-add (put_written nan (v * z) z n w t (number t) k (omega arith) (ap length is ∙ length_tabulate _ z) (λ j h. refl)))
+          (λ j h. omega (arith, here)) own_at
 
       pub sent_done : (w w' : List Float)
           → Written nan 0 (Of l (length l) z) (λ s. sub binary32 (number t ((s % z + get_or turn (s / z) 0) % z)) (number to_bits s)) w w'

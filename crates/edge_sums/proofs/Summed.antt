@@ -13,7 +13,7 @@ use lib.ListN.{length, get_or, take, drop, length-drop, replicate}
 use lib.Seq.{ext_get_or, length-take-le, get_or-take, get_or-drop}
 use Rattle.laws.specs.Range.{xor_sum}
 use Rattle.laws.specs.Written.{tabulate}
-use Rattle.laws.proofs.Written.{length_tabulate, get_d_tabulate}
+use Rattle.laws.proofs.Written.{length_tabulate, get_d_tabulate, put_written}
 use Rattle.laws.proofs.Slots.{slot_div, slot_is, row_le}
 use Rattle.laws.proofs.Parity.{xor_false}
 use Rattle.tables.specs.declared.BaseGraph.{BaseGraph}
@@ -24,7 +24,6 @@ use Rattle.matrix.specs.Checks.{row_sum, lifted}
 use Rattle.matrix.specs.Encoding.{bit}
 use Rattle.matrix.proofs.Words.{bit_of}
 use Rattle.bits.specs.Sums.{differing, Bits, AddedTurned}
-use Rattle.bits.proofs.Put.{put_written}
 use Rattle.bits.proofs.Bytes.{differing_bits, bit_most, bits_below}
 use Rattle.ldpc.specs.declared.choice.Code.{Code}
 use Rattle.ldpc.specs.Code.{code_graph, info_end, checks_of}
@@ -124,7 +123,7 @@ pub row_put : (at z turn s n : ℕ) (l row part : List ℕ) → n ≡ z → at +
     → AddedTurned turn part (take n (drop at l)) row → RowAdded at z s part l (put_mid at n l row)
 row_put at z turn s n l row part e fits long q A =
     let inside : length (take n (drop at l)) ≡ z = length-take-le n (drop at l) (omega (arith, length-drop at l)) ∙ e in
-    put_written at z n l row (λ t. differing (get_or l (at + t) 0) (get_or part ((t + s) % z) 0)) e fits (long ∙ inside)
+    put_written 0 at z n l row (λ t. differing (get_or l (at + t) 0) (get_or part ((t + s) % z) 0)) e fits (long ∙ inside)
     (λ t h. A t (omega (arith, inside))
     ∙ ap₂ (λ (x m : ℕ). differing x (get_or part ((t + turn) % m) 0))
     (get_or-take n (drop at l) t 0 (omega arith) ∙ get_or-drop at l t 0) inside

@@ -13,7 +13,8 @@ use borrow.Author.Tests.{lt-ltb, le-ltb, eq-eqb, ne_eqb, eqb-true, ltb-true}
 use Rattle.laws.specs.Range.{some}
 use Rattle.laws.specs.Columns.{has_row}
 use Rattle.laws.proofs.Range.{count_ext}
-use Rattle.laws.proofs.Some.{or_cases, or_left, or_right, and_both, and_right, alike, some_from, some_has, count_one}
+use Rattle.std.proofs.lemmas.Bool.{and_parts, and_right, or_cases, or_left, or_right}
+use Rattle.laws.proofs.Some.{alike, some_from, some_has, count_one}
 use Rattle.growth.specs.Growth.{parity_has, joins, edges_on, shares, taken}
 use Rattle.growth.specs.Search.{begun, paired, joined}
 use Rattle.growth.proofs.Parity.{self_shares}
@@ -32,7 +33,7 @@ pub held : (rows : List ℕ) (c r : ℕ) → has_row rows c r ≡ true → Held 
 unfolding has_row
 held rows c r t =
     let s = some_from (holds_at rows c r) 3 t in
-    let b = and_both (ltb (3 * c + s.at) (length rows)) (eqb (get_or rows (3 * c + s.at) 0) r) s.has in
+    let b = and_parts (ltb (3 * c + s.at) (length rows)) (eqb (get_or rows (3 * c + s.at) 0) r) s.has in
     record {
       entry = s.at;
       third = s.below;
@@ -113,7 +114,7 @@ module _ (rows : List ℕ) (x : ℕ) where
 
           new : (eqb c (length rows / 3) && eqb x r) ≡ true → has_row (rows ++ (x ∷ [])) c r ≡ true
           new u =
-              let b = and_both (eqb c (length rows / 3)) (eqb x r) u in
+              let b = and_parts (eqb c (length rows / 3)) (eqb x r) u in
               let d = eqb-true c (length rows / 3) b.0 in
               let e : 3 * c + length rows % 3 ≡ length rows = omega arith in
               has_held (rows ++ (x ∷ [])) c r
@@ -187,7 +188,7 @@ module _ (m k : ℕ) (rows : List ℕ) (x : ℕ) (space : length rows < 3 * k) w
       -- the column is x's
       at_column : (c r : ℕ) → (eqb c (length rows / 3) && eqb x r) ≡ true → (c ≡ length rows / 3) × (x ≡ r)
       at_column c r u =
-          let b = and_both (eqb c (length rows / 3)) (eqb x r) u in
+          let b = and_parts (eqb c (length rows / 3)) (eqb x r) u in
           (eqb-true c (length rows / 3) b.0, eqb-true x r b.1)
 
       in_taken : (c r : ℕ) → c ≡ length rows / 3 → joins m k rows c r ≡ true → taken m k rows r ≡ true
@@ -215,7 +216,7 @@ module _ (m k : ℕ) (rows : List ℕ) (x : ℕ) (space : length rows < 3 * k) w
       there t =
           let w = some_from both' (k + m) t in
           let c = w.at in
-          let b = and_both (joins m k (rows ++ (x ∷ [])) c q) (joins m k (rows ++ (x ∷ [])) c s) w.has in
+          let b = and_parts (joins m k (rows ++ (x ∷ [])) c q) (joins m k (rows ++ (x ∷ [])) c s) w.has in
           let right = or_cases (joins m k rows c s) (eqb c (length rows / 3) && eqb x s) (sym (joins_more c s) ∙ b.1) in
           ⊎_elim
           (λ u. ⊎_elim (λ v. old c w.below u v) (λ v. first c u (at_column c s v)) right)
@@ -239,10 +240,10 @@ module _ (m k : ℕ) (rows : List ℕ) (x : ℕ) (space : length rows < 3 * k) w
       pair a e u =
           ⊎_elim
           (λ v.
-          let b = and_both (eqb q a) (eqb s x) v in
+          let b = and_parts (eqb q a) (eqb s x) v in
           together (rw (eqb-true q a b.0) e) (rw (eqb-true s x b.1) new))
           (λ v.
-          let b = and_both (eqb q x) (eqb s a) v in
+          let b = and_parts (eqb q x) (eqb s a) v in
           together (rw (eqb-true q x b.0) new) (rw (eqb-true s a b.1) e))
           (or_cases (eqb q a && eqb s x) (eqb q x && eqb s a) u)
 
@@ -254,7 +255,7 @@ module _ (m k : ℕ) (rows : List ℕ) (x : ℕ) (space : length rows < 3 * k) w
           ⊎_elim
           (λ u.
           let w = some_from both (k + m) u in
-          let b = and_both (joins m k rows w.at q) (joins m k rows w.at s) w.has in
+          let b = and_parts (joins m k rows w.at q) (joins m k rows w.at s) w.has in
           some_has both' (k + m) w.at w.below (rw (kept w.at q b.0, kept w.at s b.1)))
           (λ u.
           let w = some_from (λ e. paired (row e) x q s) (length rows % 3) u in

@@ -15,7 +15,8 @@ use Rattle.laws.specs.Range.{some, count}
 use Rattle.laws.specs.Columns.{faulty}
 use Rattle.laws.proofs.Range.{count_ext}
 use Rattle.laws.proofs.Collect.{count_none}
-use Rattle.laws.proofs.Some.{never, false_if, or_left, or_right, some_from, some_has, some_none, count_one}
+use Rattle.std.proofs.lemmas.Bool.{both_ways, false_from_ne_true, or_left, or_right}
+use Rattle.laws.proofs.Some.{some_from, some_has, some_none, count_one}
 use Rattle.growth.specs.Search.{begun, Queue, Begun, Listed}
 
 -- the rows of place p's column so far
@@ -70,8 +71,8 @@ module _ (m : ℕ) (rows : List ℕ) (p : ℕ) (good : (j : ℕ) → j < p → f
   unfolding faulty
   good_low j h =
       leb-false m (get_or rows j 0)
-      (false_if (leb m (get_or rows j 0))
-      (λ t. never (faulty m rows j) (or_left (leb m (get_or rows j 0)) (some (λ e. eqb (get_or rows (3 * (j / 3) + e) 0) (get_or rows j 0)) (j % 3)) t) (good j h)))
+      (false_from_ne_true (leb m (get_or rows j 0))
+      (λ t. both_ways (faulty m rows j) (good j h) (or_left (leb m (get_or rows j 0)) (some (λ e. eqb (get_or rows (3 * (j / 3) + e) 0) (get_or rows j 0)) (j % 3)) t)))
 
   pub good_apart : (d e : ℕ) → d < e → e < p % 3 → get_or rows (3 * (p / 3) + d) 0 ≡ get_or rows (3 * (p / 3) + e) 0 → ⊥
   unfolding faulty
@@ -79,12 +80,10 @@ module _ (m : ℕ) (rows : List ℕ) (p : ℕ) (good : (j : ℕ) → j < p → f
       let j : ℕ = 3 * (p / 3) + e in
       let a : j / 3 ≡ p / 3 = omega arith in
       let b : j % 3 ≡ e = omega arith in
-      never (faulty m rows j)
-      (or_right (leb m (get_or rows j 0)) (some (λ i. eqb (get_or rows (3 * (j / 3) + i) 0) (get_or rows j 0)) (j % 3))
+      both_ways (faulty m rows j) (good j (omega arith)) (or_right (leb m (get_or rows j 0)) (some (λ i. eqb (get_or rows (3 * (j / 3) + i) 0) (get_or rows j 0)) (j % 3))
       (rw (a, b)
       (some_has (λ i. eqb (get_or rows (3 * (p / 3) + i) 0) (get_or rows j 0)) e d l
       (eq-eqb (get_or rows (3 * (p / 3) + d) 0) (get_or rows j 0) q))))
-      (good j (omega arith))
 
 -- the queue as the search begins
 module _ {m : ℕ} {rows depth queue : List ℕ} {p : ℕ} (fits : m ≤ 64) (pos : 0 < m) (good : (j : ℕ) → j < p → faulty m rows j ≡ false)

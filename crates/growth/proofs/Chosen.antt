@@ -10,7 +10,8 @@ use borrow.Author.Tests.{ne_eqb}
 use Rattle.laws.specs.Range.{first, foremost}
 use Rattle.laws.proofs.First.{first_ext, first_at, first_least}
 use Rattle.laws.proofs.Foremost.{foremost_ext}
-use Rattle.laws.proofs.Some.{never, some_ext}
+use Rattle.std.proofs.lemmas.Bool.{both_ways}
+use Rattle.laws.proofs.Some.{some_ext}
 use Rattle.growth.specs.Growth.{reached, steps, ahead_by, shares, taken, distance, edges_on, next_row}
 use Rattle.growth.specs.Search.{meets, begun, chosen}
 
@@ -41,7 +42,7 @@ steps_none m link from r pos = by (from r) refl
     by false t =
         let L = first_least (λ n. reached m link from n r) m in
         ne_eqb (first (λ n. reached m link from n r) m) 0
-        (λ z. never (from r) (rw z at (L.has (omega arith))) t)
+        (λ z. both_ways (from r) t (rw z at (L.has (omega arith))))
         ∙ sym t
 
 -- what the search found, and the choice by it

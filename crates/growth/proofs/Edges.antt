@@ -10,7 +10,8 @@ use borrow.Author.Tests.{eq-eqb, ne_eqb, eqb-true}
 use Rattle.laws.specs.Range.{some}
 use Rattle.laws.specs.Columns.{parity_row}
 use Rattle.laws.proofs.Columns.{stair_row}
-use Rattle.laws.proofs.Some.{or_cases, or_left, or_right, and_both, alike, some_from, some_has}
+use Rattle.std.proofs.lemmas.Bool.{and_parts, or_cases, or_left, or_right}
+use Rattle.laws.proofs.Some.{alike, some_from, some_has}
 use Rattle.growth.specs.Growth.{parity_has}
 
 module _ (m : ℕ) (c r : ℕ) where
@@ -66,5 +67,5 @@ module _ (m : ℕ) (c r : ℕ) where
       alike (parity_has m c r) (some is_edge (2 * m + 1)) (has_edge h)
       (λ t.
       let s = some_from is_edge (2 * m + 1) t in
-      let b = and_both (eqb (parity_row m s.at) r) (eqb ((s.at - 1) / 2) c) s.has in
+      let b = and_parts (eqb (parity_row m s.at) r) (eqb ((s.at - 1) / 2) c) s.has in
       row_is s.at (eqb-true (parity_row m s.at) r b.0) (eqb-true ((s.at - 1) / 2) c b.1))

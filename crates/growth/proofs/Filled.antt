@@ -11,7 +11,7 @@ use lib.ListN.{length, get_or, set, length-set}
 use lib.Seq.{get_or-set_same, get_or-set_other}
 use borrow.Author.Tests.{eq-eqb, ne_eqb}
 use Rattle.laws.specs.Range.{some}
-use Rattle.laws.proofs.Some.{and_right}
+use Rattle.std.proofs.lemmas.Bool.{and_right}
 use Rattle.growth.specs.Search.{meets, paired, joined}
 
 -- a list that holds f at each place below i

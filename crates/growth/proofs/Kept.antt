@@ -8,7 +8,7 @@ use borrow.Author.Tests.{le-ltb, lt-ltb}
 use Rattle.std.specs.Prelude.{Option, Some, None, MatchOption, IfSome}
 use Rattle.laws.specs.Range.{foremost}
 use Rattle.laws.proofs.Foremost.{Order, Lead, lead_first, lead_skip, lead_keep, lead_take, lead_all, lead_none}
-use Rattle.laws.proofs.Some.{and_both}
+use Rattle.std.proofs.lemmas.Bool.{and_parts}
 use Rattle.columns.specs.Found.{below}
 use Rattle.growth.specs.Search.{leads_over}
 
@@ -19,8 +19,8 @@ Best p ahead n best = MatchOption best ((q : ℕ) → q < n → p q ≡ false) (
 module _ (p : ℕ → Bool) (ahead : ℕ → ℕ → Bool) where
   pub best_take : (n : ℕ) (best : Option ℕ) → Order ahead → Best p ahead n best → (p n && leads_over ahead n best) ≡ true
       → Best p ahead (n + 1) (Some n)
-  best_take n None O B t = lead_first p ahead n B (and_both (p n) true t).0 (O.self n)
-  best_take n (Some b) O B t = let both = and_both (p n) (ahead n b) t in lead_take p ahead n b B O both.0 both.1
+  best_take n None O B t = lead_first p ahead n B (and_parts (p n) true t).0 (O.self n)
+  best_take n (Some b) O B t = let both = and_parts (p n) (ahead n b) t in lead_take p ahead n b B O both.0 both.1
 
   pub best_keep : (n : ℕ) (best : Option ℕ) → Best p ahead n best → (p n && leads_over ahead n best) ≡ false → Best p ahead (n + 1) best
   best_keep n None B f = below_more (λ q. p q ≡ false) n B (none (p n) refl)

@@ -12,7 +12,8 @@ use borrow.Author.Tests.{lt-ltb, le-ltb, eq-eqb, ne_eqb, eqb-true}
 use Rattle.laws.specs.Range.{some, count}
 use Rattle.laws.specs.Columns.{has_row}
 use Rattle.laws.proofs.Collect.{count_none}
-use Rattle.laws.proofs.Some.{false_if, or_cases, or_left, or_right, and_both, and_right, alike, some_from, some_has, some_none, count_one}
+use Rattle.std.proofs.lemmas.Bool.{and_parts, and_right, false_from_ne_true, or_cases, or_left, or_right}
+use Rattle.laws.proofs.Some.{alike, some_from, some_has, some_none, count_one}
 use Rattle.growth.specs.Growth.{parity_has, joins, edges_on, shares}
 use Rattle.growth.specs.Search.{ends, beside, parity_edges}
 
@@ -113,7 +114,7 @@ module _ (m k : ℕ) (size : 3 ≤ m) where
 
   none_else : (r c : ℕ) → ((c ≡ k) × (ends m r ≡ true) → ⊥) → (c ≡ k + r → ⊥) → (c ≡ k + (r + 1) → ⊥) → joins m k [] c r ≡ false
   none_else r c f g h =
-      false_if (joins m k [] c r) (λ t. ⊎_elim f (λ w. ⊎_elim (λ x. g x.1) h w) (joins_cases m k c r t))
+      false_from_ne_true (joins m k [] c r) (λ t. ⊎_elim f (λ w. ⊎_elim (λ x. g x.1) h w) (joins_cases m k c r t))
 
   pub edges_first : (r : ℕ) → r < m → edges_on m k [] r ≡ parity_edges m r
   unfolding edges_on parity_edges ends
@@ -193,7 +194,7 @@ module _ (m k : ℕ) (size : 3 ≤ m) where
       there : some both (k + m) ≡ true → beside m q r ≡ true
       there t =
           let s = some_from both (k + m) t in
-          let b = and_both (joins m k [] s.at q) (joins m k [] s.at r) s.has in
+          let b = and_parts (joins m k [] s.at q) (joins m k [] s.at r) s.has in
           meet s.at b.0 b.1
 
       at : (c : ℕ) → c < k + m → joins m k [] c q ≡ true → joins m k [] c r ≡ true → some both (k + m) ≡ true
@@ -220,6 +221,6 @@ module _ (m k : ℕ) (size : 3 ≤ m) where
           at (k + q) (omega arith) (row_joins m k [] q (omega arith)) (rw e at (next_joins m k [] r)))
           (or_cases (eqb q r || eqb (q + 1) r) (eqb (r + 1) q) u))
           (λ u.
-          let b = and_both (ends m q) (ends m r) u in
+          let b = and_parts (ends m q) (ends m r) u in
           at k (omega arith) (ends_joins m k [] q b.0) (ends_joins m k [] r b.1))
           (or_cases (eqb q r || eqb (q + 1) r || eqb (r + 1) q) (ends m q && ends m r) t)

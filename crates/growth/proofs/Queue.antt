@@ -12,7 +12,8 @@ use lib.Seq.{get_or-set_same, get_or-set_other}
 use borrow.Author.Tests.{lt-ltb, le-ltb, ne_eqb, eqb-true}
 use Rattle.laws.specs.Range.{count}
 use Rattle.laws.proofs.Collect.{count_most}
-use Rattle.laws.proofs.Some.{and_both, and_right, count_one, count_room}
+use Rattle.std.proofs.lemmas.Bool.{and_parts, and_right}
+use Rattle.laws.proofs.Some.{count_one, count_room}
 use Rattle.growth.specs.Search.{meets, Queue, Spread, Listed}
 
 -- row r is reached
@@ -196,14 +197,14 @@ module _ {m : ℕ} {near : List Bool} {head end : ℕ} {depth₀ queue₀ : List
 
     pub spreading_room : (meets near (get_or queue₀ head 0) x && eqb (get_or depth x 0) m) ≡ true → tail < m
     spreading_room t =
-        let b = and_both (meets near (get_or queue₀ head 0) x) (eqb (get_or depth x 0) m) t in
+        let b = and_parts (meets near (get_or queue₀ head 0) x) (eqb (get_or depth x 0) m) t in
         room G.queued x h (omega (arith, eqb-true (get_or depth x 0) m b.1))
 
     pub spreading_take : m ≤ 64 → head < end → (meets near (get_or queue₀ head 0) x && eqb (get_or depth x 0) m) ≡ true → (v : ℕ)
         → v ≡ get_or depth₀ (get_or queue₀ head 0) 0 + 1
         → Spreading m near head end depth₀ queue₀ (x + 1) (set depth x v) (set queue tail x) (tail + 1)
     spreading_take fits waits t v e =
-        let b = and_both (meets near (get_or queue₀ head 0) x) (eqb (get_or depth x 0) m) t in
+        let b = and_parts (meets near (get_or queue₀ head 0) x) (eqb (get_or depth x 0) m) t in
         let k = G.spread.kept head waits in
         let d = spread_old G.spread (get_or queue₀ head 0) (Q.row head waits) (queue_reached Q head waits) in
         record {

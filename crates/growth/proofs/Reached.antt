@@ -13,7 +13,8 @@ use lib.ListN.{get_or}
 use borrow.Author.Tests.{lt-ltb, eq-eqb, ne_eqb, eqb-true}
 use Rattle.laws.specs.Range.{some, first}
 use Rattle.laws.proofs.First.{first_at, first_none}
-use Rattle.laws.proofs.Some.{false_if, or_cases, or_right, and_both, some_from, some_has}
+use Rattle.std.proofs.lemmas.Bool.{and_parts, false_from_ne_true, or_cases, or_right}
+use Rattle.laws.proofs.Some.{some_from, some_has}
 use Rattle.growth.specs.Growth.{reached, steps}
 use Rattle.growth.specs.Search.{meets, Queue, Spread}
 use Rattle.growth.proofs.Queue.{queue_reached, room, spread_old}
@@ -151,7 +152,7 @@ module _ {m : ℕ} {link : ℕ → ℕ → Bool} {from : ℕ → Bool} {depth qu
           → some (λ q. reached m link from n q && link q r) m ≡ true → (get_or depth r 0 < m) × (get_or depth r 0 ≤ suc n)
       later f t =
           let s = some_from (λ q. reached m link from n q && link q r) m t in
-          let b = and_both (reached m link from n s.at) (link s.at r) s.has in
+          let b = and_parts (reached m link from n s.at) (link s.at r) s.has in
           let d = f s.at s.below b.0 in
           let w = led_on s.at r s.below h d.0 b.1 in
           (w.0, omega (arith, w.1, d.1))
@@ -163,10 +164,10 @@ module _ {m : ℕ} {link : ℕ → ℕ → Bool} {from : ℕ → Bool} {depth qu
       by : Dec (get_or depth r 0 < m) → get_or depth r 0 ≡ first (λ n. reached m link from n r) m
       by (yes l) =
           sym (first_at (λ n. reached m link from n r) m (get_or depth r 0) l (S.sound r h l)
-          (λ j k. false_if (reached m link from j r) (λ t. omega (arith, (complete j r h t).1))))
+          (λ j k. false_from_ne_true (reached m link from j r) (λ t. omega (arith, (complete j r h t).1))))
       by (no l) =
           omega (
             arith,
             Q.most r h,
-            first_none (λ n. reached m link from n r) m (λ j k. false_if (reached m link from j r) (λ t. l (complete j r h t).0)),
+            first_none (λ n. reached m link from n r) m (λ j k. false_from_ne_true (reached m link from j r) (λ t. l (complete j r h t).0)),
           )

@@ -11,7 +11,7 @@ use lib.ListN.{length, take, get_or}
 use lib.Seq.{take-suc, take-length}
 use Rattle.laws.specs.Range.{folded, collect, xor_sum}
 use Rattle.laws.proofs.Parity.{xor_false}
-use Rattle.laws.proofs.Some.{never}
+use Rattle.std.proofs.lemmas.Bool.{both_ways}
 
 module _ {A : Type 0} where
   pub folded_append : (f : A → ℕ → A) (x : A) (l k : List ℕ) → folded f x (l ++ k) ≡ folded f (folded f x l) k
@@ -115,7 +115,7 @@ module _ {A : Type 0} (p : ℕ → Bool) (f : A → ℕ → A) (x : A) (l k : Li
           rw (e, last i g q (dec_lt (i + 1) m), folded_more f x k i g, ← P.holds i g, q, earlier i C')
       by false e earlier =
           let other : (i : ℕ) → i < length k → place i ≡ n → ⊥ =
-          λ i g q. never (p (get_or l n 0)) (ap (λ j. p (get_or l j 0)) (sym q) ∙ ap p (P.holds i g) ∙ P.has i g) e in
+          λ i g q. both_ways (p (get_or l n 0)) e (ap (λ j. p (get_or l j 0)) (sym q) ∙ ap p (P.holds i g) ∙ P.has i g) in
           let C' : Cut n m = record {
             most = C.most;
             inside = λ i r. omega (arith, C.inside i r, other i (omega (arith, C.most)));

@@ -13,7 +13,7 @@ use borrow.Author.Tests.{lt-ltb, le-ltb, eq-eqb, ne_eqb, ltb-true, ltb-false}
 use Rattle.laws.specs.Range.{every, foremost}
 use Rattle.laws.proofs.Range.{every_fails, every_ext}
 use Rattle.laws.proofs.First.{first_at, first_none, first_ext}
-use Rattle.laws.proofs.Some.{never}
+use Rattle.std.proofs.lemmas.Bool.{both_ways}
 
 pub record Order (ahead : ℕ → ℕ → Bool) : Type 0 where
   pub self : (a : ℕ) → ahead a a ≡ false
@@ -52,8 +52,8 @@ module _ (p : ℕ → Bool) (ahead : ℕ → ℕ → Bool) where
       record {
         below = omega arith;
         has = e;
-        none = more n n (λ q l i. absurd (never (p q) i (h q l))) (λ i. s);
-        before = λ q l i. absurd (never (p q) i (h q l));
+        none = more n n (λ q l i. absurd (both_ways (p q) (h q l) i)) (λ i. s);
+        before = λ q l i. absurd (both_ways (p q) (h q l) i);
       }
 
   -- one number more, without p or not ahead
@@ -62,7 +62,7 @@ module _ (p : ℕ → Bool) (ahead : ℕ → ℕ → Bool) where
       record {
         below = omega (arith, L.below);
         has = L.has;
-        none = more n r L.none (λ i. absurd (never (p n) i e));
+        none = more n r L.none (λ i. absurd (both_ways (p n) e i));
         before = L.before;
       }
 
@@ -128,7 +128,7 @@ module _ (p : ℕ → Bool) (ahead : ℕ → ℕ → Bool) where
     where
       by : Leader n ⊎ ((q : ℕ) → q < n → p q ≡ false) → Lead n (foremost p ahead n)
       by (inl L) = rw (lead_all n L.at L.leads) L.leads
-      by (inr h) = absurd (never (p q) e (h q l))
+      by (inr h) = absurd (both_ways (p q) (h q l) e)
 
 -- smaller keys are ahead
 pub by_key : (key : ℕ → ℕ) → Order (λ a b. ltb (key a) (key b))
@@ -158,13 +158,13 @@ over_true x u y v e = by (dec_lt y x) (ℕ_discrete x y)
     by : Dec (y < x) → Dec (x ≡ y) → (y ≤ x) × (x ≤ y → u < v)
     by (yes h) d = (omega arith, λ k. absurd (omega arith))
     by (no h) (yes q) = (omega arith, λ k. ltb-true u v (sym (level x u y v q) ∙ e))
-    by (no h) (no q) = absurd (never (over x u y v) e (under x u y v (omega arith)))
+    by (no h) (no q) = absurd (both_ways (over x u y v) (under x u y v (omega arith)) e)
 
 over_false : (x u y v : ℕ) → over x u y v ≡ false → (x ≤ y) × (y ≤ x → v ≤ u)
 over_false x u y v e = by (dec_lt y x) (ℕ_discrete x y)
   where
     by : Dec (y < x) → Dec (x ≡ y) → (x ≤ y) × (y ≤ x → v ≤ u)
-    by (yes h) d = absurd (never (over x u y v) (above x u y v h) e)
+    by (yes h) d = absurd (both_ways (over x u y v) e (above x u y v h))
     by (no h) (yes q) = (omega arith, λ k. ltb-false u v (sym (level x u y v q) ∙ e))
     by (no h) (no q) = (omega arith, λ k. absurd (omega arith))
 

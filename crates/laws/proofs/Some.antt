@@ -1,4 +1,4 @@
--- Tests that are joined, and the laws of `some` and `count` over a range. Assumes nothing.
+-- Tests that are true together; the laws of `some` and `count` over a range. Assumes nothing.
 use mathlib.Core.Path.{◌≡◌, refl, sym, ◌∙◌}
 use mathlib.Core.Logic.{◌⊎◌, inl, inr, ⊎_elim}
 use mathlib.Core.Bool.{Bool, true, false, cond, ◌&&◌, ◌||◌, or-false, true≢false}
@@ -7,46 +7,16 @@ use native.Mathlib.Omega.{arith}
 use native.Mathlib.Decide.{ℕ_discrete}
 use lib.Dec.{ltb, eqb}
 use borrow.Author.Tests.{lt-ltb, le-ltb, ltb-true, eq-eqb, ne_eqb}
+use Rattle.std.proofs.lemmas.Bool.{or_cases, or_left, or_parts, or_right}
 use Rattle.laws.specs.Range.{some, first, count}
 use Rattle.laws.proofs.Range.{count_ext}
 use Rattle.laws.proofs.Collect.{count_most}
-
-pub never : (a : Bool) → a ≡ true → a ≡ false → ⊥
-never a t f = true≢false (sym t ∙ f)
-
--- a test is false if it is true of nothing
-pub false_if : (a : Bool) → (a ≡ true → ⊥) → a ≡ false
-false_if true h = absurd (h refl)
-false_if false h = refl
-
-pub or_cases : (a b : Bool) → (a || b) ≡ true → (a ≡ true) ⊎ (b ≡ true)
-or_cases true b e = inl refl
-or_cases false b e = inr e
-
-pub or_left : (a b : Bool) → a ≡ true → (a || b) ≡ true
-or_left a b e = rw e
-
-pub or_right : (a b : Bool) → b ≡ true → (a || b) ≡ true
-or_right true b e = refl
-or_right false b e = e
-
-pub and_both : (a b : Bool) → (a && b) ≡ true → (a ≡ true) × (b ≡ true)
-and_both true b e = (refl, e)
-and_both false b e = absurd (true≢false (sym e))
-
-pub and_right : (a b : Bool) → b ≡ false → (a && b) ≡ false
-and_right true b e = e
-and_right false b e = refl
 
 -- tests that are true together are the same
 pub alike : (a b : Bool) → (a ≡ true → b ≡ true) → (b ≡ true → a ≡ true) → a ≡ b
 alike true b f g = sym (f refl)
 alike false true f g = g refl
 alike false false f g = refl
-
-pub neither : (a b : Bool) → a || b ≡ false → (a ≡ false) × (b ≡ false)
-neither false b e = (refl, e)
-neither true b e = absurd (true≢false e)
 
 -- a number below n that has p
 pub record Some (p : ℕ → Bool) (n : ℕ) : Type 0 where
@@ -90,7 +60,7 @@ some_ext p q (suc n) e = rw (e n (omega arith), some_ext p q n (λ k h. e k (ome
 pub some_fails : (p : ℕ → Bool) (n : ℕ) → some p n ≡ false → (k : ℕ) → k < n → p k ≡ false
 unfolding some
 some_fails p zero e k h = absurd (omega arith)
-some_fails p (suc n) e k h = let (rest, last) = neither (some p n) (p n) e in at last (some_fails p n rest k) (ℕ_discrete k n)
+some_fails p (suc n) e k h = let (rest, last) = or_parts (some p n) (p n) e in at last (some_fails p n rest k) (ℕ_discrete k n)
   where
     at : p n ≡ false → (k < n → p k ≡ false) → Dec (k ≡ n) → p k ≡ false
     at last earlier (yes q) = rw q last

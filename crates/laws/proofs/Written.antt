@@ -7,8 +7,9 @@ use Prim.Native.Nat.{ℕ, zero, suc, ◌+◌, ◌-◌, ◌*◌, ◌/◌, ◌%◌
 use native.Mathlib.Omega.{arith}
 use native.Mathlib.Decide.{ℕ_discrete, dec_lt}
 use native.Mathlib.Nat.{add_assoc, zero-add, mod-lt}
+use borrow.Rule.Slice.PartMut.{put_mid}
 use lib.ListN.{length, take, drop, get_or, set, length-set, length-drop, length-append, get_or-append}
-use lib.Seq.{length-take-le, get_or-set_same, get_or-set_other, ext_get_or, get_or-append-add, get_or-take, get_or-drop}
+use lib.Seq.{length-take-le, get_or-set_same, get_or-set_other, ext_get_or, get_or-append-add, get_or-take, get_or-drop, drop-drop}
 use Rattle.laws.proofs.Slots.{slot_div, slot_is}
 use Rattle.laws.specs.Written.{Written, At, tabulate, rewritten}
 
@@ -257,6 +258,15 @@ pub tabulated : {A : Type 0} (d : A) (f : ℕ → A) (n : ℕ) (l : List A) → 
 tabulated d f n l e at =
     ext_get_or d l (tabulate f n) (e ∙ sym (length_tabulate f n))
     (λ i h. let k : i < n = omega arith in at i k ∙ sym (get_d_tabulate d f n i k))
+
+-- a part that was lent and is put back, holding f: f is written there, and nothing elsewhere
+pub put_written : {A : Type 0} (d : A) (at z n : ℕ) (l part : List A) (f : ℕ → A) → n ≡ z → at + z ≤ length l → length part ≡ z
+    → ((t : ℕ) → t < z → get_or part t d ≡ f t) → Written d at (λ t. t < z) f l (put_mid at n l part)
+unfolding rewritten
+put_written d at z n l part f e fits long is =
+    let same : put_mid at n l part ≡ rewritten at z f l =
+    ap₂ (λ x y. take at l ++ (x ++ y)) (tabulated d f z part long is) (drop-drop n at l ∙ ap (λ (k : ℕ). drop (at + k) l) e) in
+    subst (Written d at (λ t. t < z) f l) (sym same) (written_rewritten d at z f l fits)
 
 -- a list that is written from the front, and held f already past what is written, is f all through
 pub filled : {A : Type 0} (d : A) (f : ℕ → A) (w : List A) {w' : List A} (k : ℕ) → Written d 0 (Upto (λ s. s < length w) (λ s. s) k) f w w'

@@ -1,2 +1,2 @@
--- The laws of the check pass. Assumes nothing.
-pub mod Rows
+-- Scratch. Assumes nothing.
+pub mod Iterated

@@ -4,9 +4,9 @@
 mod lifted;
 mod sizes;
 
-ghost use Rattle.std.specs.Prelude.{◌≡◌, ◌+◌, ◌<◌, ◌≤◌};
+ghost use Rattle.std.specs.Prelude.{◌≡◌, ◌+◌, ◌*◌, ◌<◌, ◌≤◌};
 ghost use Rattle.matrix.specs.Edges.{row_edges, ColumnList};
-ghost use Rattle.ldpc.specs.Code.{code_graph};
+ghost use Rattle.ldpc.specs.Code.{code_graph, work_of};
 ghost use Rattle.lists.specs.Lists.{lists_of};
 ghost use Rattle.sizes.specs.Sizes.{sizes_of};
 
@@ -15,11 +15,12 @@ pub use lifted::Lifted;
 use lists::Lists;
 pub use sizes::Sizes;
 
-#[tactic(auto, unfolding(crate::specs::Sizes::sizes_of, messages::specs::Memory::bits_of, messages::specs::Memory::slots_of))]
+#[tactic(auto, unfolding(crate::specs::Sizes::sizes_of, messages::specs::Memory::bits_of, messages::specs::Memory::slots_of, ldpc::specs::Code::work_of))]
 pub fn sizes_of(code: ValidCode) -> Sizes
     ensures value { result ≡ sizes_of code.code }
     ensures columns { (1 ≤ result.info) × (result.info ≤ 51) × (3 ≤ result.rows) × (result.rows ≤ 39) × (result.info + result.rows ≤ 60) }
     ensures bounded { (result.edges ≤ 172) × (result.bits ≤ 19440) × (result.slots ≤ 55728) }
+    ensures needed { 2 * result.bits + 2 * result.slots ≡ work_of code.code }
 {
     let s = code.shape();
     let edges = code.edges();

@@ -15,7 +15,7 @@ use lib.Seq.{ext_get_or, length-take-le, get_or-take, get_or-drop}
 use Rattle.laws.specs.Range.{xor_sum}
 use Rattle.laws.specs.Written.{Written, rewritten}
 use Rattle.laws.proofs.Parity.{xor_sum_ext}
-use Rattle.laws.proofs.Written.{length_tabulate, get_d_tabulate, at_rewritten}
+use Rattle.laws.proofs.Written.{length_tabulate, get_d_tabulate, at_rewritten, put_written}
 use Rattle.laws.proofs.Slots.{slot_lt, slot_div, slot_mod, slot_is, row_le, on_then_back}
 use Rattle.matrix.specs.Checks.{row_sum, lifted}
 use Rattle.matrix.proofs.Words.{of_bit_lem}
@@ -23,7 +23,6 @@ use Rattle.matrix.specs.Encoding.{info_sum, total_sum, first_parity, parity_bit,
 use Rattle.bits.specs.Sums.{differing}
 use Rattle.bits.specs.Rows.{Holds, Stepped}
 use Rattle.bits.proofs.Bytes.{differing_bits}
-use Rattle.bits.proofs.Put.{put_written}
 use Rattle.ldpc.specs.declared.choice.Code.{Code}
 use Rattle.ldpc.specs.Code.{code_graph, info_end, checks_of}
 use Rattle.edge_sums.specs.Sums.{sums_of}
@@ -71,7 +70,7 @@ pub row_stepped : (at z n : ℕ) (middle : Bool) (parity next total row next' : 
     × ((t : ℕ) → t < z → get_or next' t 0 ≡ differing (differing (get_or parity (at + t) 0) (get_or next t 0)) (cond middle (get_or total t 0) 0))
 row_stepped at z n middle parity next total row next' e fits long P =
     let inside : length (take n (drop at parity)) ≡ z = length-take-le n (drop at parity) (omega (arith, length-drop at parity)) ∙ e in (
-      put_written at z n parity row (λ t. get_or next t 0) e fits (long ∙ inside) (λ t h. P.put t (omega (arith, inside))),
+      put_written 0 at z n parity row (λ t. get_or next t 0) e fits (long ∙ inside) (λ t h. P.put t (omega (arith, inside))),
       λ t h.
           P.made t (omega (arith, inside))
           ∙ ap (λ (x : ℕ). differing (differing x (get_or next t 0)) (cond middle (get_or total t 0) 0))
