@@ -4,7 +4,7 @@ ghost use Rattle.slots.specs.Row.{Within};
 
 use crate::slot;
 
-// The base edges of a row, in rising order, and the slots of the whole graph, among which theirs are.
+// The base edges of a row, and the slots of the whole graph, among which theirs are.
 #[derive(Clone, Copy, Debug)]
 pub struct Edges<'a> {
     pub z: usize,
