@@ -1,5 +1,5 @@
 -- A record of vectors, as the list of records that its lanes are. Assumes nothing.
-use Rattle.std.specs.Prelude.{◌≡◌, List, ℕ, ◌+◌, ◌*◌, ◌<◌, ◌≤◌, length, get_or, map}
+use Rattle.std.specs.Prelude.{◌≡◌, List, map}
 use Rattle.rule.specs.declared.Least.{Least}
 use Rattle.lanes.specs.Masks.{mask_of}
 use Rattle.checks.specs.declared.vectors.Four.{Four}
@@ -10,7 +10,3 @@ pub record Shows (f : Four) (rs : List Least) : Type 0 where
   pub second : f.«min2» ≡ map (λ (r : Least). r.«min2») rs
   pub place : f.place ≡ map (λ (r : Least). r.argmin) rs
   pub sign : f.sign ≡ map mask_of (map (λ (r : Least). r.sign) rs)
-
--- the four slots from offset t on, of each of the base edges l, in the region from a place on, end before another place
-abbrev pub Loads : ℕ → ℕ → ℕ → ℕ → List ℕ → Type 0
-Loads z t from end l = (i : ℕ) → i < length l → from + (get_or l i 0 * z + t + 4) ≤ end

@@ -1,70 +1,48 @@
 // The checks of a base row at one block of 4.
-ghost use Rattle.std.specs.Prelude.{◌+◌, ◌<◌, ◌≤◌, length};
+ghost use Rattle.std.specs.Prelude.{◌≡◌, ◌+◌, ◌≤◌, length};
 ghost use Rattle.std.specs.Float.{nan};
 ghost use Rattle.laws.specs.Written.{Written};
-ghost use Rattle.messages.specs.Memory.{reading};
+ghost use Rattle.messages.specs.Memory.{number};
 ghost use Rattle.messages.specs.Iteration.{answer};
-ghost use Rattle.slots.specs.Row.{Within, gathered_four, Pairs};
-ghost use Rattle.checks.specs.Lanes.{Shows, Loads};
+ghost use Rattle.slots.specs.Row.{Pairs, gathered_four};
+ghost use Rattle.checks.specs.Lanes.{Shows};
 
-use crate::vectors;
 use crate::vectors::Four;
-use slots::{place, slot};
+use slots::{Edges, place};
 
-// What the messages of some base edges come to, at the four offsets from t on; the messages stand from `from` on. At a lift below 4
-// the lanes past the lift hold what other slots come to, which counts for nothing.
-pub fn gather(work: &[f32], from: usize, z: usize, t: usize, edges: &[u8]) -> Four
-    requires { (t < z) × (z ≤ 324) × Loads z t from (length work.now) edges.now }
-    ensures { Shows result (gathered_four (reading work.now from) z t edges.now) }
+// What the messages of a row come to, at the four offsets from t on.
+fn gather(row: Edges, t: usize, to_checks: &[f32]) -> Four
+    requires { (t + 4 ≤ row.z) × (length to_checks.now ≡ row.slots) }
+    ensures { Shows result (gathered_four (number to_checks.now) row.entry.z t row.entry.list.now) }
 {
-    let mut l = vectors::fresh();
-    let mut i = 0;
-    while i < edges.len() {
-        let b = edges[i];
-        let m = lanes::load::<4>(work, from + slot(b, z, t));
-        l = vectors::with(l, m, place(b));
-        i += 1;
+    let mut l = Four::new();
+    for &b in row.list {
+        let m = lanes::load::<4>(to_checks, row.slot(b, t));
+        l = l.with(m, place(b));
     }
     l
 }
 
-// Sends what those checks answer to the region from `to` on.
-fn scatter(
-    work: &mut [f32],
-    from: usize,
-    to: usize,
-    z: usize,
-    t: usize,
-    edges: &[u8],
-    l: Four,
-    factor: f32,
-)
-    requires { (t + 4 ≤ z) × (z ≤ 324) × Within z from to edges.now × Within z to (length work.old) edges.now × Shows l (gathered_four (reading work.old from) z t edges.now) }
-    ensures { Written nan to (Pairs edges.now (length edges.now) z t t) (answer factor z edges.now (reading work.old from)) work.old work.new }
+// Sends what those checks answer.
+fn scatter(row: Edges, t: usize, l: Four, factor: f32, to_checks: &[f32], to_bits: &mut [f32])
+    requires fits { t + 4 ≤ row.z }
+    requires long { (length to_checks.now ≡ row.slots) × (length to_bits.old ≡ row.slots) }
+    requires shown { Shows l (gathered_four (number to_checks.now) row.z t row.list.now) }
+    ensures { Written nan 0 (Pairs row.entry.list.now (length row.entry.list.now) row.entry.z t t) (answer factor row.entry.z row.entry.list.now (number to_checks.now)) to_bits.old to_bits.new }
 {
-    let mut i = 0;
-    while i < edges.len() {
-        let b = edges[i];
-        let s = slot(b, z, t);
-        let m = lanes::load::<4>(work, from + s);
-        lanes::store(work, to + s, vectors::message(l, factor, m, place(b)));
-        i += 1;
+    for &b in row.list {
+        let s = row.slot(b, t);
+        let m = lanes::load::<4>(to_checks, s);
+        lanes::store(to_bits, s, l.message(factor, m, place(b)));
     }
 }
 
 // The checks at the offsets from t on.
-pub fn check_block(
-    work: &mut [f32],
-    from: usize,
-    to: usize,
-    z: usize,
-    t: usize,
-    edges: &[u8],
-    factor: f32,
-)
-    requires { (t + 4 ≤ z) × (z ≤ 324) × Within z from to edges.now × Within z to (length work.old) edges.now }
-    ensures { Written nan to (Pairs edges.now (length edges.now) z t t) (answer factor z edges.now (reading work.old from)) work.old work.new }
+pub fn check_block(row: Edges, t: usize, factor: f32, to_checks: &[f32], to_bits: &mut [f32])
+    requires fits { t + 4 ≤ row.z }
+    requires long { (length to_checks.now ≡ row.slots) × (length to_bits.old ≡ row.slots) }
+    ensures { Written nan 0 (Pairs row.entry.list.now (length row.entry.list.now) row.entry.z t t) (answer factor row.entry.z row.entry.list.now (number to_checks.now)) to_bits.old to_bits.new }
 {
-    let l = gather(work, from, z, t, edges);
-    scatter(work, from, to, z, t, edges, l, factor);
+    let l = gather(row, t, to_checks);
+    scatter(row, t, l, factor, to_checks, to_bits);
 }

@@ -1,37 +1,49 @@
-// The checks of a base row at a lift below 4, by one vector of which as many lanes count as there are checks.
-ghost use Rattle.std.specs.Prelude.{◌+◌, ◌<◌, ◌≤◌, length};
+// The checks of a base row at a lift below 4, by one vector of which as many lanes count as there are checks. The other lanes hold
+// what stands past the slots of a base edge, which counts for nothing.
+ghost use Rattle.std.specs.Prelude.{◌≡◌, ◌<◌, length};
 ghost use Rattle.std.specs.Float.{nan};
 ghost use Rattle.laws.specs.Written.{Written};
-ghost use Rattle.messages.specs.Memory.{reading};
+ghost use Rattle.messages.specs.Memory.{number};
 ghost use Rattle.messages.specs.Iteration.{answer};
-ghost use Rattle.slots.specs.Row.{Of, Within, gathered_four};
+ghost use Rattle.slots.specs.Row.{Of, gathered_four};
 ghost use Rattle.checks.specs.Lanes.{Shows};
 
-use crate::block::gather;
-use crate::vectors;
-use crate::vectors::Four;
-use slots::{place, slot};
+use crate::vectors::{Four, store_some};
+use slots::{Edges, place};
 
-// Sends what the checks answer to the region from `to` on.
-fn scatter(work: &mut [f32], from: usize, to: usize, z: usize, edges: &[u8], l: Four, factor: f32)
-    requires { (0 < z) × (z < 4) × Within z from to edges.now × Within z to (length work.old) edges.now × (to + 4 ≤ length work.old) × Shows l (gathered_four (reading work.old from) z 0 edges.now) }
-    ensures { Written nan to (Of edges.now (length edges.now) z) (answer factor z edges.now (reading work.old from)) work.old work.new }
+// What the messages of a row come to.
+fn gather(row: Edges, to_checks: &[f32]) -> Four
+    requires { length to_checks.now ≡ row.slots }
+    ensures { Shows result (gathered_four (number to_checks.now) row.entry.z 0 row.entry.list.now) }
 {
-    let mut i = 0;
-    while i < edges.len() {
-        let b = edges[i];
-        let s = slot(b, z, 0);
-        let m = lanes::load::<4>(work, from + s);
-        vectors::store_some(work, to + s, z, vectors::message(l, factor, m, place(b)));
-        i += 1;
+    let mut l = Four::new();
+    for &b in row.list {
+        let m = lanes::load_some::<4>(to_checks, row.slot(b, 0));
+        l = l.with(m, place(b));
+    }
+    l
+}
+
+// Sends what its checks answer.
+fn scatter(row: Edges, l: Four, factor: f32, to_checks: &[f32], to_bits: &mut [f32])
+    requires few { row.z < 4 }
+    requires long { (length to_checks.now ≡ row.slots) × (length to_bits.old ≡ row.slots) }
+    requires shown { Shows l (gathered_four (number to_checks.now) row.z 0 row.list.now) }
+    ensures { Written nan 0 (Of row.entry.list.now (length row.entry.list.now) row.entry.z) (answer factor row.entry.z row.entry.list.now (number to_checks.now)) to_bits.old to_bits.new }
+{
+    for &b in row.list {
+        let s = row.slot(b, 0);
+        let m = lanes::load_some::<4>(to_checks, s);
+        store_some(to_bits, s, row.z, l.message(factor, m, place(b)));
     }
 }
 
-// The checks of a row. The four numbers that are loaded at a slot end within the memory, since four stand from `to` on.
-pub fn row(work: &mut [f32], from: usize, to: usize, z: usize, edges: &[u8], factor: f32)
-    requires { (0 < z) × (z < 4) × Within z from to edges.now × Within z to (length work.old) edges.now × (to + 4 ≤ length work.old) }
-    ensures { Written nan to (Of edges.now (length edges.now) z) (answer factor z edges.now (reading work.old from)) work.old work.new }
+// The checks of a row.
+pub fn check_row(row: Edges, factor: f32, to_checks: &[f32], to_bits: &mut [f32])
+    requires few { row.z < 4 }
+    requires long { (length to_checks.now ≡ row.slots) × (length to_bits.old ≡ row.slots) }
+    ensures { Written nan 0 (Of row.entry.list.now (length row.entry.list.now) row.entry.z) (answer factor row.entry.z row.entry.list.now (number to_checks.now)) to_bits.old to_bits.new }
 {
-    let l = gather(work, from, z, 0, edges);
-    scatter(work, from, to, z, edges, l, factor);
+    let l = gather(row, to_checks);
+    scatter(row, l, factor, to_checks, to_bits);
 }

@@ -1,17 +1,16 @@
 // The checks of a base row by two blocks of 4 at a time. The blocks of a pair may overlap: what a check sends is a matter of the
 // messages to it alone, so that it may be computed twice.
-ghost use Rattle.std.specs.Prelude.{◌+◌, ◌<◌, ◌≤◌, length};
+ghost use Rattle.std.specs.Prelude.{◌≡◌, ◌+◌, ◌≤◌, length};
 ghost use Rattle.std.specs.Float.{nan};
 ghost use Rattle.laws.specs.Written.{Written};
-ghost use Rattle.messages.specs.Memory.{reading};
+ghost use Rattle.messages.specs.Memory.{number};
 ghost use Rattle.messages.specs.Iteration.{answer};
-ghost use Rattle.slots.specs.Row.{Of, Within, gathered_four, Pairs};
+ghost use Rattle.slots.specs.Row.{Of, Pairs, gathered_four};
 ghost use Rattle.checks.specs.Lanes.{Shows};
 
 use crate::block::check_block;
-use crate::vectors;
 use crate::vectors::Four;
-use slots::{place, slot};
+use slots::{Edges, place};
 
 // What the checks of two blocks have gathered.
 #[derive(Clone, Copy)]
@@ -20,109 +19,72 @@ struct Pair {
     second: Four,
 }
 
-// What the messages of some base edges come to, at the offsets from t on and from u on; the messages stand from `from` on.
-fn gather(work: &[f32], from: usize, z: usize, t: usize, u: usize, edges: &[u8]) -> Pair
-    requires { (t + 4 ≤ z) × (u + 4 ≤ z) × (z ≤ 324) × Within z from (length work.now) edges.now }
-    ensures first_value { Shows result.first (gathered_four (reading work.now from) z t edges.now) }
-    ensures second_value { Shows result.second (gathered_four (reading work.now from) z u edges.now) }
+// What the messages of a row come to, at the four offsets from t on and from u on.
+fn gather(row: Edges, t: usize, u: usize, to_checks: &[f32]) -> Pair
+    requires { (t + 4 ≤ row.z) × (u + 4 ≤ row.z) × (length to_checks.now ≡ row.slots) }
+    ensures first { Shows result.first (gathered_four (number to_checks.now) row.entry.z t row.entry.list.now) }
+    ensures second { Shows result.second (gathered_four (number to_checks.now) row.entry.z u row.entry.list.now) }
 {
-    let mut first = vectors::fresh();
-    let mut second = vectors::fresh();
-    let mut i = 0;
-    while i < edges.len() {
-        let b = edges[i];
-        let m = lanes::load::<4>(work, from + slot(b, z, t));
-        let n = lanes::load::<4>(work, from + slot(b, z, u));
-        first = vectors::with(first, m, place(b));
-        second = vectors::with(second, n, place(b));
-        i += 1;
+    let mut first = Four::new();
+    let mut second = Four::new();
+    for &b in row.list {
+        let m = lanes::load::<4>(to_checks, row.slot(b, t));
+        let n = lanes::load::<4>(to_checks, row.slot(b, u));
+        first = first.with(m, place(b));
+        second = second.with(n, place(b));
     }
-    Pair {
-        first: first,
-        second: second,
-    }
+    Pair { first, second }
 }
 
-// Sends what those checks answer to the region from `to` on.
+// Sends what those checks answer.
 fn scatter(
-    work: &mut [f32],
-    from: usize,
-    to: usize,
-    z: usize,
+    row: Edges,
     t: usize,
     u: usize,
-    edges: &[u8],
-    first: Four,
-    second: Four,
+    pair: Pair,
     factor: f32,
+    to_checks: &[f32],
+    to_bits: &mut [f32],
 )
-    requires t_bound { (t + 4 ≤ z) × (u + 4 ≤ z) × (z ≤ 324) × Within z from to edges.now × Within z to (length work.old) edges.now }
-    requires first_value { Shows first (gathered_four (reading work.old from) z t edges.now) × Shows second (gathered_four (reading work.old from) z u edges.now) }
-    ensures { Written nan to (Pairs edges.now (length edges.now) z t u) (answer factor z edges.now (reading work.old from)) work.old work.new }
+    requires fits { (t + 4 ≤ row.z) × (u + 4 ≤ row.z) }
+    requires long { (length to_checks.now ≡ row.slots) × (length to_bits.old ≡ row.slots) }
+    requires shown { Shows pair.first (gathered_four (number to_checks.now) row.z t row.list.now) × Shows pair.second (gathered_four (number to_checks.now) row.z u row.list.now) }
+    ensures { Written nan 0 (Pairs row.entry.list.now (length row.entry.list.now) row.entry.z t u) (answer factor row.entry.z row.entry.list.now (number to_checks.now)) to_bits.old to_bits.new }
 {
-    let mut i = 0;
-    while i < edges.len() {
-        let b = edges[i];
-        let s = slot(b, z, t);
-        let r = slot(b, z, u);
-        let m = lanes::load::<4>(work, from + s);
-        let n = lanes::load::<4>(work, from + r);
-        lanes::store(work, to + s, vectors::message(first, factor, m, place(b)));
-        lanes::store(work, to + r, vectors::message(second, factor, n, place(b)));
-        i += 1;
+    for &b in row.list {
+        let s = row.slot(b, t);
+        let r = row.slot(b, u);
+        let m = lanes::load::<4>(to_checks, s);
+        let n = lanes::load::<4>(to_checks, r);
+        lanes::store(to_bits, s, pair.first.message(factor, m, place(b)));
+        lanes::store(to_bits, r, pair.second.message(factor, n, place(b)));
     }
 }
 
-// The checks at the offsets from t on and from u on.
-fn check_pair(
-    work: &mut [f32],
-    from: usize,
-    to: usize,
-    z: usize,
-    t: usize,
-    u: usize,
-    edges: &[u8],
-    factor: f32,
-)
-    requires { (t + 4 ≤ z) × (u + 4 ≤ z) × (z ≤ 324) × Within z from to edges.now × Within z to (length work.old) edges.now }
-    ensures { Written nan to (Pairs edges.now (length edges.now) z t u) (answer factor z edges.now (reading work.old from)) work.old work.new }
-{
-    let p = gather(work, from, z, t, u, edges);
-    scatter(work, from, to, z, t, u, edges, p.first, p.second, factor);
-}
-
-// The same, where the two blocks that are one are worked once.
-fn check_blocks(
-    work: &mut [f32],
-    from: usize,
-    to: usize,
-    z: usize,
-    t: usize,
-    u: usize,
-    edges: &[u8],
-    factor: f32,
-)
-    requires { (t + 4 ≤ z) × (u + 4 ≤ z) × (z ≤ 324) × Within z from to edges.now × Within z to (length work.old) edges.now }
-    ensures { Written nan to (Pairs edges.now (length edges.now) z t u) (answer factor z edges.now (reading work.old from)) work.old work.new }
+// The checks at the offsets from t on and from u on; where the two blocks are one, it is worked once.
+fn check_blocks(row: Edges, t: usize, u: usize, factor: f32, to_checks: &[f32], to_bits: &mut [f32])
+    requires fits { (t + 4 ≤ row.z) × (u + 4 ≤ row.z) }
+    requires long { (length to_checks.now ≡ row.slots) × (length to_bits.old ≡ row.slots) }
+    ensures { Written nan 0 (Pairs row.entry.list.now (length row.entry.list.now) row.entry.z t u) (answer factor row.entry.z row.entry.list.now (number to_checks.now)) to_bits.old to_bits.new }
 {
     if t == u {
-        check_block(work, from, to, z, t, edges, factor);
+        check_block(row, t, factor, to_checks, to_bits);
     } else {
-        check_pair(work, from, to, z, t, u, edges, factor);
+        let pair = gather(row, t, u, to_checks);
+        scatter(row, t, u, pair, factor, to_checks, to_bits);
     }
 }
 
 // The checks of a row of 4 or more; the last blocks go back as far as they must.
-pub fn row(work: &mut [f32], from: usize, to: usize, z: usize, edges: &[u8], factor: f32)
-    requires { (4 ≤ z) × (z ≤ 324) × Within z from to edges.now × Within z to (length work.old) edges.now }
-    ensures { Written nan to (Of edges.now (length edges.now) z) (answer factor z edges.now (reading work.old from)) work.old work.new }
+pub fn check_row(row: Edges, factor: f32, to_checks: &[f32], to_bits: &mut [f32])
+    requires fits { 4 ≤ row.z }
+    requires long { (length to_checks.now ≡ row.slots) × (length to_bits.old ≡ row.slots) }
+    ensures { Written nan 0 (Of row.entry.list.now (length row.entry.list.now) row.entry.z) (answer factor row.entry.z row.entry.list.now (number to_checks.now)) to_bits.old to_bits.new }
 {
-    let last = z - 4;
-    let mut t = 0;
-    while t < z {
-        let at = numbers::lesser(t, last);
-        let next = numbers::lesser(at + 4, last);
-        check_blocks(work, from, to, z, at, next, edges, factor);
-        t = next + 4;
+    let last = row.z - 4;
+    for pair in 0..row.z.div_ceil(8) {
+        let t = (8 * pair).min(last);
+        let u = (8 * pair + 4).min(last);
+        check_blocks(row, t, u, factor, to_checks, to_bits);
     }
 }

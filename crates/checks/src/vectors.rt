@@ -20,57 +20,60 @@ pub struct Four {
 }
 
 // Puts the first z numbers of a block to the places from `at` on.
-pub fn store_some(work: &mut [f32], at: usize, z: usize, block: f32x4)
-    requires { (0 < z) × (z < 4) × (at + z ≤ length work.old) }
-    ensures { Ran at z (λ j. get_or block j nan) work.old work.new }
+pub fn store_some(to_bits: &mut [f32], at: usize, z: usize, block: f32x4)
+    requires { (0 < z) × (z < 4) × (at + z ≤ length to_bits.old) }
+    ensures { Ran at z (λ j. get_or block j nan) to_bits.old to_bits.new }
 {
     let x = block.to_array();
     if z == 1 {
-        work[at] = x[0];
+        to_bits[at] = x[0];
     } else if z == 2 {
-        work[at] = x[0];
-        work[at + 1] = x[1];
+        to_bits[at] = x[0];
+        to_bits[at + 1] = x[1];
     } else {
-        work[at] = x[0];
-        work[at + 1] = x[1];
-        work[at + 2] = x[2];
+        to_bits[at] = x[0];
+        to_bits[at + 1] = x[1];
+        to_bits[at + 2] = x[2];
     }
 }
 
-// Four checks that have gathered nothing.
-pub fn fresh() -> Four
-    ensures { Shows result (tabulate (λ j. started) 4) }
-{
-    Four {
-        min1: f32x4::splat(1.0 / 0.0),
-        min2: f32x4::splat(1.0 / 0.0),
-        place: u32x4::splat(0),
-        sign: mask32x4::splat(false),
+impl Four {
+    // Four checks that have gathered nothing.
+    pub fn new() -> Four
+        ensures { Shows result (tabulate (λ j. started) 4) }
+    {
+        Four {
+            min1: f32x4::splat(f32::INFINITY),
+            min2: f32x4::splat(f32::INFINITY),
+            place: u32x4::splat(0),
+            sign: mask32x4::splat(false),
+        }
     }
-}
 
-// Each with one message more. The magnitudes change on strictly smaller only, as in the crate rule.
-pub fn with(l: Four, m: f32x4, place: u32) -> Four
-    ensures { (rs : List Least) → length rs ≡ 4 → Shows l rs → Shows result (tabulate (λ j. taken (get_or rs j past) (get_or m j nan) place) 4) }
-{
-    let a = magnitude(m);
-    let first = a.simd_lt(l.min1);
-    Four {
-        min1: first.select(a, l.min1),
-        min2: first.select(l.min1, a.simd_lt(l.min2).select(a, l.min2)),
-        place: first.select(u32x4::splat(place), l.place),
-        sign: l.sign ^ m.simd_lt(f32x4::splat(0.0)),
+    // Each with one message more. The magnitudes change on strictly smaller only, as in the crate rule.
+    pub fn with(self, m: f32x4, place: u32) -> Four
+        ensures { (rs : List Least) → length rs ≡ 4 → Shows self rs → Shows result (tabulate (λ j. taken (get_or rs j past) (get_or m j nan) place) 4) }
+    {
+        let a = magnitude(m);
+        let first = a.simd_lt(self.min1);
+        Four {
+            min1: first.select(a, self.min1),
+            min2: first.select(self.min1, a.simd_lt(self.min2).select(a, self.min2)),
+            place: first.select(u32x4::splat(place), self.place),
+            sign: self.sign ^ m.simd_lt(f32x4::splat(0.0)),
+        }
     }
-}
 
-// What each sends to the place that sent its message.
-pub fn message(l: Four, factor: f32, m: f32x4, place: u32) -> f32x4
-    ensures { (rs : List Least) → length rs ≡ 4 → Shows l rs → result ≡ tabulate (λ j. answered factor (get_or rs j past) (get_or m j nan) place) 4 }
-{
-    let below = f32x4::splat(factor * -1.0);
-    let other = f32x4::splat(factor * 1.0);
-    let s = (l.sign ^ m.simd_lt(f32x4::splat(0.0))).select(below, other);
-    s * u32x4::splat(place).simd_eq(l.place).select(l.min2, l.min1)
+    // What each sends to the place that sent its message.
+    pub fn message(self, factor: f32, m: f32x4, place: u32) -> f32x4
+        ensures { (rs : List Least) → length rs ≡ 4 → Shows self rs → result ≡ tabulate (λ j. answered factor (get_or rs j past) (get_or m j nan) place) 4 }
+    {
+        let below = f32x4::splat(factor * -1.0);
+        let other = f32x4::splat(factor * 1.0);
+        let s = (self.sign ^ m.simd_lt(f32x4::splat(0.0))).select(below, other);
+        let own = u32x4::splat(place).simd_eq(self.place);
+        s * own.select(self.min2, self.min1)
+    }
 }
 
 // The sign bits cleared: of −0, NaN and the infinities too.

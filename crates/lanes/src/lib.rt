@@ -17,6 +17,20 @@ pub fn load<const N: usize>(work: &[f32], at: usize) -> Simd<f32, N>
     Simd::from_slice(&work[at..])
 }
 
+// The same near the end of the numbers: past it the lanes hold NaN.
+pub fn load_some<const N: usize>(work: &[f32], at: usize) -> Simd<f32, N>
+    requires { at ≤ length work.now }
+    ensures { result ≡ tabulate (λ j. get_or work.now (at + j) nan) N }
+{
+    if at + N <= work.len() {
+        return load(work, at);
+    }
+    let rest = &work[at..];
+    let mut lanes = [f32::NAN; N];
+    lanes[..rest.len()].copy_from_slice(rest);
+    Simd::from_array(lanes)
+}
+
 // Puts a block to the places from `at` on.
 pub fn store<const N: usize>(work: &mut [f32], at: usize, block: Simd<f32, N>)
     requires { at + N ≤ length work.old }

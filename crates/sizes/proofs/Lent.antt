@@ -243,17 +243,10 @@ row_slot_end : (l : Lifted) (r i : ℕ) → i < length (row_edges (code_graph l.
     → get_or (row_edges (code_graph l.code.code) r) i 0 * l.code.code.z + l.code.code.z ≤ l.sizes.slots
 row_slot_end l r i h = (edge_in l _ (row_edge_lt l r i h)).slot_end
 
--- what a row's checks ask of their list
-pub row_asked : (l : Lifted) (len r : ℕ) (part : List ℕ) → work_of l.code.code ≤ len → part ≡ row_edges (code_graph l.code.code) r
-    → (0 < l.code.code.z) × (l.code.code.z ≤ 324) × Within l.code.code.z (2 * l.sizes.bits) (2 * l.sizes.bits + l.sizes.slots) part
-    × Within l.code.code.z (2 * l.sizes.bits + l.sizes.slots) len part
-row_asked l len r part room e =
-    let S = known l len room in
-    let z = l.code.code.z in
-    let g = code_graph l.code.code in
-    let to = 2 * l.sizes.bits + l.sizes.slots in (
-      S.lift,
-      S.lift_most,
-      subst (Within z (2 * l.sizes.bits) to) (sym e) (λ i h. omega (arith, row_slot_end l r i h)),
-      subst (Within z to len) (sym e) (λ i h. omega (arith, row_slot_end l r i h, S.room)),
-    )
+-- so all its slots are among those of the graph
+pub row_within : (l : Lifted) (r : ℕ) (part : List ℕ) → part ≡ row_edges (code_graph l.code.code) r → Within l.code.code.z l.sizes.slots part
+row_within l r part e = subst (Within l.code.code.z l.sizes.slots) (sym e) (λ i h. row_slot_end l r i h)
+
+-- and the lift is one
+pub lift : (l : Lifted) → (0 < l.code.code.z) × (l.code.code.z ≤ 324)
+lift l = ((K l).lift, (K l).lift_most)

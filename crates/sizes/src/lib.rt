@@ -14,6 +14,7 @@ use ldpc::ValidCode;
 pub use lifted::Lifted;
 use lists::Lists;
 pub use sizes::Sizes;
+use slots::Edges;
 
 #[tactic(auto, unfolding(crate::specs::Sizes::sizes_of, messages::specs::Memory::bits_of, messages::specs::Memory::slots_of, ldpc::specs::Code::work_of))]
 pub fn sizes_of(code: ValidCode) -> Sizes
@@ -56,6 +57,20 @@ impl<'a> Lifted<'a> {
         let from = usize::from(self.lists.start[r]);
         let end = usize::from(self.lists.start[r + 1]);
         &order[from..end]
+    }
+
+    // The same, with their slots at the lift.
+    #[tactic(auto, using(crate::proofs::Lent::lift, crate::proofs::Lent::row_within))]
+    pub fn row_slots(&self, r: usize) -> Edges<'_>
+        requires { r < self.now.sizes.rows }
+        ensures listed { result.list.now ≡ row_edges (code_graph self.now.code.code) r }
+        ensures sized { (result.z ≡ self.now.code.code.z) × (result.slots ≡ self.now.sizes.slots) }
+    {
+        Edges {
+            z: self.code.code.z,
+            list: self.row(r),
+            slots: self.sizes.slots,
+        }
     }
 
     // The base edges of column v, in rising row.

@@ -3,9 +3,8 @@ use Rattle.std.specs.Prelude.{◌≡◌, false, cond, List, ℕ, ◌+◌, ◌*�
 use Rattle.std.specs.Float.{nan, binary32}
 use Rattle.std.specs.Float.Ieee.{mul}
 use Rattle.laws.specs.Floats.{negative}
-use Rattle.laws.specs.Written.{Written, At, tabulate}
+use Rattle.laws.specs.Written.{Written, tabulate}
 use Rattle.rule.specs.declared.Least.{Least}
-use Rattle.rule.specs.Rule.{Ordered}
 use Rattle.messages.specs.Iteration.{gathered}
 
 -- slot s is one of the first n base edges of l
@@ -14,13 +13,9 @@ pub record Of (l : List ℕ) (n z s : ℕ) : Type 0 where
   pub inside : index < n
   pub is : get_or l index 0 ≡ s / z
 
--- and its offset is t
-abbrev pub Check : List ℕ → ℕ → ℕ → ℕ → ℕ → Type 0
-Check l n z t = At (Of l n z) (λ s. s % z) t
-
--- the slots of the base edges l, in the region from a place on, end before another place
-abbrev pub Within : ℕ → ℕ → ℕ → List ℕ → Type 0
-Within z from end l = (i : ℕ) → i < length l → from + (get_or l i 0 * z + z) ≤ end
+-- every slot of the base edges l is below an end
+abbrev pub Within : ℕ → ℕ → List ℕ → Type 0
+Within z end l = (i : ℕ) → i < length l → get_or l i 0 * z + z ≤ end
 
 -- n numbers from `at` on get f
 abbrev pub Ran : ℕ → ℕ → (ℕ → Float) → List Float → List Float → Type 0
@@ -29,10 +24,6 @@ Ran at n f w w' = Written nan at (λ i. i < n) f w w'
 -- what stands for the records past the end of a list
 abbrev pub past : Least
 past = record { «min1» = nan; «min2» = nan; argmin = 0; sign = false }
-
--- what four checks have gathered, each in order
-abbrev pub AllOrdered : List Least → Type 0
-AllOrdered l = (j : ℕ) → j < 4 → Ordered (get_or l j past)
 
 -- what the checks at the four offsets from t on gather
 unfoldable pub gathered_four : (ℕ → Float) → ℕ → ℕ → List ℕ → List Least

@@ -1,11 +1,11 @@
--- `scatter` meets its contract. The invariant: the slots of the first i base edges are written. Assumes nothing.
-use Prim.Native.Nat.{◌-◌, ◌≤◌}
-use lib.ListN.{length}
-use Rattle.checks.proofs.Below.{FewUpto}
+-- `scatter` meets its contract. The invariant: the slots of the base edges so far are written. Assumes nothing.
+use lib.Ieee.{nan}
+use Rattle.laws.specs.Written.{Written}
+use Rattle.messages.specs.Memory.{number}
+use Rattle.messages.specs.Iteration.{answer}
+use Rattle.slots.specs.Row.{Of}
 use Rattle.checks.proofs.few.scatter.Given as goal
 
-abbrev pub invariant-loop-i : goal.invariant-loop-i
-invariant-loop-i l = (l.i ≤ length l.edges) × FewUpto l.from l.to l.z l.edges l.factor l.i l.initial.work l.work
-
-abbrev pub decreases-loop-i : goal.decreases-loop-i
-decreases-loop-i l = length l.edges - l.i
+abbrev pub invariant-loop-b : goal.invariant-loop-b
+invariant-loop-b l =
+    Written nan 0 (Of l.row.list.now l.b-index l.row.z) (answer l.factor l.row.z l.row.list.now (number l.to_checks)) l.initial.to_bits l.to_bits

@@ -1,16 +1,11 @@
--- `gather` meets its contract. The invariant: the first i base edges are gathered, at both blocks. Assumes nothing.
-use Prim.Native.Nat.{◌-◌, ◌≤◌}
-use lib.ListN.{length, take}
-use Rattle.messages.specs.Memory.{reading}
+-- `gather` meets its contract. The invariant: the base edges so far are gathered, at both blocks. Assumes nothing.
+use lib.ListN.{take}
+use Rattle.messages.specs.Memory.{number}
 use Rattle.slots.specs.Row.{gathered_four}
 use Rattle.checks.specs.Lanes.{Shows}
 use Rattle.checks.proofs.pairs.gather.Given as goal
 
-abbrev pub invariant-loop-i : goal.invariant-loop-i
-invariant-loop-i l =
-    (l.i ≤ length l.edges)
-    × Shows l.first (gathered_four (reading l.work l.from) l.z l.t (take l.i l.edges))
-    × Shows l.second (gathered_four (reading l.work l.from) l.z l.u (take l.i l.edges))
-
-abbrev pub decreases-loop-i : goal.decreases-loop-i
-decreases-loop-i l = length l.edges - l.i
+abbrev pub invariant-loop-b : goal.invariant-loop-b
+invariant-loop-b l =
+    Shows l.first (gathered_four (number l.to_checks) l.row.z l.t (take l.b-index l.row.list.now))
+    × Shows l.second (gathered_four (number l.to_checks) l.row.z l.u (take l.b-index l.row.list.now))

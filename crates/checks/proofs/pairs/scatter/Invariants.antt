@@ -1,11 +1,11 @@
--- `scatter` meets its contract. The invariant: the slots of the first i base edges are written, at both blocks. Assumes nothing.
-use Prim.Native.Nat.{◌-◌, ◌≤◌}
-use lib.ListN.{length}
-use Rattle.checks.proofs.Sent.{SentUpto}
+-- `scatter` meets its contract. The invariant: the slots of the base edges so far are written, at both blocks. Assumes nothing.
+use lib.Ieee.{nan}
+use Rattle.laws.specs.Written.{Written}
+use Rattle.messages.specs.Memory.{number}
+use Rattle.messages.specs.Iteration.{answer}
+use Rattle.slots.specs.Row.{Pairs}
 use Rattle.checks.proofs.pairs.scatter.Given as goal
 
-abbrev pub invariant-loop-i : goal.invariant-loop-i
-invariant-loop-i l = (l.i ≤ length l.edges) × SentUpto l.from l.to l.z l.t l.u l.edges l.factor l.i l.initial.work l.work
-
-abbrev pub decreases-loop-i : goal.decreases-loop-i
-decreases-loop-i l = length l.edges - l.i
+abbrev pub invariant-loop-b : goal.invariant-loop-b
+invariant-loop-b l =
+    Written nan 0 (Pairs l.row.list.now l.b-index l.row.z l.t l.u) (answer l.factor l.row.z l.row.list.now (number l.to_checks)) l.initial.to_bits l.to_bits

@@ -1,9 +1,9 @@
--- `fresh` meets its contract: 1.0 / 0.0 is an infinity, by computation. Assumes nothing.
+-- `new` meets its contract: 1.0 / 0.0 is an infinity, by computation. Assumes nothing.
 use mathlib.Core.Path.{refl}
 use lib.Ieee as Ieee
 use Rattle.laws.specs.Written.{tabulate}
 use Rattle.rule.specs.Rule.{started}
-use Rattle.checks.proofs.vectors.fresh.Goals as goal
+use Rattle.checks.proofs.vectors.Four.new.Goals as goal
 
 pub returns : goal.returns
 unfolding Ieee.of_bits Ieee.div tabulate started

@@ -1,2 +1,0 @@
--- The laws of a check that is worked by itself. Assumes nothing.
-pub mod Sending
