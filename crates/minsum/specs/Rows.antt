@@ -4,10 +4,10 @@ use Rattle.std.specs.Float.{nan}
 use Rattle.laws.specs.Written.{Written, At}
 use Rattle.tables.specs.declared.BaseGraph.{BaseGraph}
 use Rattle.matrix.specs.Edges.{edge_row}
-use Rattle.messages.specs.Memory.{slots_of, to_checks_at, to_bits_at, reading}
+use Rattle.messages.specs.Memory.{slots_of, number}
 use Rattle.messages.specs.Iteration.{to_bit}
 
--- the checks of base row r have sent their messages to bits
-abbrev pub RowDone : Float → BaseGraph → ℕ → ℕ → List Float → List Float → Type 0
-RowDone factor g z r w w' =
-    Written nan (to_bits_at g z) (At (λ s. s < slots_of g z) (λ s. edge_row g (s / z)) r) (to_bit factor g z (reading w (to_checks_at g z))) w w'
+-- the checks of base row r have sent their messages to bits, of the messages m to them
+abbrev pub RowDone : Float → BaseGraph → ℕ → ℕ → List Float → List Float → List Float → Type 0
+RowDone factor g z r m w w' =
+    Written nan 0 (At (λ s. s < slots_of g z) (λ s. edge_row g (s / z)) r) (to_bit factor g z (number m)) w w'
