@@ -1,9 +1,8 @@
 -- What a run leaves, by its numbers: a list that is combined, block after block; and two runs side by side. Assumes nothing.
-use Rattle.std.proofs.Common.{◌≡◌, List, ◌∷◌, ◌++◌, ap, ap₂, ◌∙◌, refl, ℕ, zero, suc, ◌+◌, ◌-◌, ◌<◌, ◌≤◌, length, take, drop, arith}
+use Rattle.std.proofs.Common.{◌≡◌, List, ◌∷◌, ◌++◌, ap, ap₂, ◌∙◌, refl, ℕ, zero, suc, ◌+◌, ◌-◌, ◌<◌, ◌≤◌, length, arith}
 use native.Mathlib.Decide.{dec_lt}
 use lib.Ieee.{Float, nan}
 use lib.ListN.{get_or}
-use lib.Seq.{get_or-take, get_or-drop, length-take-le}
 use Rattle.laws.specs.Written.{Written, tabulate}
 use Rattle.laws.proofs.Written.{tabulated, tabulate_ext, get_d_tabulate}
 use Rattle.messages.specs.Memory.{number}

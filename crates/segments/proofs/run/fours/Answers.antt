@@ -1,5 +1,5 @@
 -- `fours` meets its contract. Assumes nothing.
-use Rattle.std.proofs.Common.{◌*◌, ◌+◌, ◌-◌, refl, length, arith}
+use Rattle.std.proofs.Common.{◌-◌, refl, length, arith}
 use Rattle.segments.proofs.Runs.{upto_none, upto_block, upto_all}
 use Rattle.segments.proofs.run.fours.Goals as goal
 
