@@ -5,8 +5,8 @@ ghost use Rattle.segments.specs.Combined.{combined};
 
 use crate::operation::{Lanewise, Operation};
 
-// Fewer than four, by three tests that the compiler takes apart.
-#[tactic(auto, using(crate::proofs::Runs::upto_none, crate::proofs::Runs::upto_block, crate::proofs::Runs::upto_all))]
+// Fewer than four: the compiler, which knows it, makes no vectors here.
+#[tactic(auto, using(crate::proofs::Runs::upto_none, crate::proofs::Runs::upto_all))]
 fn few<O: Operation>(o: O, to: &mut [f32], a: &[f32], b: &[f32])
     requires few { length to.old < 4 }
     requires lengths { (length a.now ≡ length to.old) × (length b.now ≡ length to.old) }
@@ -18,7 +18,6 @@ fn few<O: Operation>(o: O, to: &mut [f32], a: &[f32], b: &[f32])
 }
 
 // Four to eight.
-#[tactic(auto, using(crate::proofs::Runs::upto_none, crate::proofs::Runs::upto_block, crate::proofs::Runs::upto_all))]
 fn fours<O: Lanewise<4>>(o: O, to: &mut [f32], a: &[f32], b: &[f32])
     requires some { (4 ≤ length to.old) × (length to.old ≤ 8) }
     requires lengths { (length a.now ≡ length to.old) × (length b.now ≡ length to.old) }
@@ -32,7 +31,6 @@ fn fours<O: Lanewise<4>>(o: O, to: &mut [f32], a: &[f32], b: &[f32])
 }
 
 // Eight and more.
-#[tactic(auto, using(crate::proofs::Runs::upto_none, crate::proofs::Runs::upto_block, crate::proofs::Runs::upto_all))]
 fn eights<O: Lanewise<8>>(o: O, to: &mut [f32], a: &[f32], b: &[f32])
     requires some { 8 ≤ length to.old }
     requires lengths { (length a.now ≡ length to.old) × (length b.now ≡ length to.old) }
@@ -47,8 +45,8 @@ fn eights<O: Lanewise<8>>(o: O, to: &mut [f32], a: &[f32], b: &[f32])
     lanes::store(to, n - 8, last);
 }
 
-// A long run, by a loop that the compiler makes vectors of.
-#[tactic(auto, using(crate::proofs::Runs::upto_none, crate::proofs::Runs::upto_block, crate::proofs::Runs::upto_all))]
+// A long run: the compiler makes vectors of the loop.
+#[tactic(auto, using(crate::proofs::Runs::upto_none, crate::proofs::Runs::upto_all))]
 fn long<O: Operation>(o: O, to: &mut [f32], a: &[f32], b: &[f32])
     requires lengths { (length a.now ≡ length to.old) × (length b.now ≡ length to.old) }
     ensures { to.new ≡ combined O.op to.old a.now b.now }
