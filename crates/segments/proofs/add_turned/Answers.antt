@@ -1,7 +1,27 @@
 -- `add_turned` meets its contract. Assumes nothing.
-use Rattle.segments.proofs.Turned.{added_turned}
+use Rattle.std.proofs.Common.{ap, ap₂, ◌∙◌, ℕ, ◌+◌, ◌++◌, length, arith}
+use lib.Ieee.{nan, add, binary32}
+use Rattle.laws.proofs.Slots.{back_low, back_high}
+use Rattle.messages.specs.Memory.{number}
+use Rattle.segments.specs.Combined.{combined}
+use Rattle.segments.proofs.Runs.{joined}
 use Rattle.segments.proofs.add_turned.Goals as goal
 
 pub returns : goal.returns
+unfolding combined
 returns c =
-    added_turned c.args.s c.args.z c.requires.0 c.args.work.now _ _ c.args.at c.args.from c.requires.1 c.add_run.ensures c.add_run-2.ensures
+    let s = c.args.s in
+    let z = length c.args.totals.now in
+    let message = λ (k : ℕ). number c.args.messages.now k in
+    let totals = c.split_at_mut-low.ensures.by_index in
+    let messages = c.split_at.ensures.by_index in
+    ap₂ ◌++◌ c.run.ensures c.run-2.ensures
+    ∙ joined _ _ _ _ _ z
+    (λ i l.
+    ap₂ (add binary32) (totals.0 i nan (omega arith))
+    (messages.2 i nan ∙ ap message (omega (arith, back_low i s z c.requires.0 (omega arith)))))
+    (λ i l.
+    let k = length c.split_at_mut-low.result.0.now + i in
+    ap₂ (add binary32) (totals.1 i nan ∙ ap (λ (x : ℕ). number c.args.totals.now x) (omega arith))
+    (messages.1 i nan (omega arith) ∙ ap message (omega (arith, back_high k s z (omega arith) c.requires.0 (omega arith)))))
+    (omega arith)

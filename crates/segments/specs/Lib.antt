@@ -1,0 +1,2 @@
+-- The terms of runs. Assumes nothing.
+pub mod Combined
