@@ -12,7 +12,7 @@ use Rattle.laws.specs.Range.{folded}
 use Rattle.laws.specs.Written.{Written, At, tabulate}
 use Rattle.laws.proofs.Folded.{folded_ext}
 use Rattle.laws.proofs.Slots.{slot_lt, slot_div, slot_mod, slot_is, edge_lt, row_le}
-use Rattle.laws.proofs.Written.{Upto, upto_run, upto_all, same, block, tabulated, get_d_tabulate, length_tabulate, put_written}
+use Rattle.laws.proofs.Written.{Upto, upto_run, upto_all, same, block, upto_tabulated, get_d_tabulate, length_tabulate, put_written}
 use Rattle.tables.specs.declared.BaseGraph.{BaseGraph}
 use Rattle.matrix.specs.Edges.{edges, edge_column, edge_shift, bit_at, slot_of, edges_by_row, ColumnList}
 use Rattle.matrix.proofs.ByColumn.{by_column}
@@ -22,7 +22,7 @@ use Rattle.slots.specs.Row.{Of}
 use Rattle.messages.specs.Memory.{bits_of, slots_of, number}
 use Rattle.messages.specs.Iteration.{added}
 use Rattle.messages.specs.Regions.{total_of, totals_of, to_check_of, to_checks_of}
-use Rattle.totals.specs.Joined.{joined_slot, total_over}
+use Rattle.totals.specs.Joined.{joined_slot, total_over, Sent}
 use Rattle.by_columns.specs.Columns.{TotalsDone, SentDone}
 
 module _ (g : BaseGraph) (z : ℕ) (lift : 0 < z) (simple : Simple g) (channel to_bits : List Float) where
@@ -59,9 +59,7 @@ module _ (g : BaseGraph) (z : ℕ) (lift : 0 < z) (simple : Simple g) (channel t
           (rw zero-add (put_written nan (v * z) z n w t (number t) k (omega arith) (ap length is ∙ length_tabulate _ z) (λ j h. refl)))
           (λ j h. omega (arith, here)) own_at
 
-      pub sent_done : (w w' : List Float)
-          → Written nan 0 (Of l (length l) z) (λ s. sub binary32 (number t ((s % z + get_or turn (s / z) 0) % z)) (number to_bits s)) w w'
-          → SentDone g z channel to_bits v w w'
+      pub sent_done : (w w' : List Float) → Sent z turn l t to_bits w w' → SentDone g z channel to_bits v w w'
       unfolding slots_of to_check_of bit_at
       sent_done w w' W =
           same W
@@ -86,13 +84,10 @@ module _ (g : BaseGraph) (z : ℕ) (lift : 0 < z) (simple : Simple g) (channel t
   pub totals_all : (v : ℕ) (w w' : List Float) → g.shape.n_b ≤ v → length w ≡ bits_of g z
       → Written nan 0 (Upto (λ u. u < bits_of g z) (λ u. u / z) v) (total_of g z channel to_bits) w w' → w' ≡ totals_of g z channel to_bits
   unfolding totals_of bits_of
-  totals_all v w w' h long W =
-      tabulated nan _ (bits_of g z) w' (W.long ∙ long) (λ u k. rw zero-add at (W.at u (record { among = k; below = omega (arith, edge_lt lift k) })))
+  totals_all v w w' h long W = upto_tabulated (bits_of g z) v long (λ u k. omega (arith, edge_lt lift k)) W
 
   pub sent_all : (v : ℕ) (w w' : List Float) → g.shape.n_b ≤ v → length w ≡ slots_of g z
       → Written nan 0 (Upto (λ s. s < slots_of g z) (λ s. edge_column g (s / z)) v) (to_check_of g z channel to_bits) w w'
       → w' ≡ to_checks_of g z channel to_bits
   unfolding to_checks_of slots_of
-  sent_all v w w' h long W =
-      tabulated nan _ (slots_of g z) w' (W.long ∙ long)
-      (λ s k. rw zero-add at (W.at s (record { among = k; below = omega (arith, simple.column_lt (s / z) (edge_lt lift k)) })))
+  sent_all v w w' h long W = upto_tabulated (slots_of g z) v long (λ s k. omega (arith, simple.column_lt (s / z) (edge_lt lift k))) W

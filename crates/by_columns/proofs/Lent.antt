@@ -18,8 +18,7 @@ use Rattle.ldpc.specs.Code.{code_graph, work_of}
 use Rattle.ldpc.proofs.CodeEdges.{code_simple}
 use Rattle.sizes.specs.declared.lifted.Lifted.{Lifted}
 use Rattle.sizes.proofs.Lent.{Known, known, edge_in, turn_at}
-use Rattle.totals.specs.Joined.{total_over}
-use Rattle.by_columns.specs.Fit.{Fits}
+use Rattle.totals.specs.Joined.{total_over, Fits, Sent}
 use Rattle.by_columns.specs.Columns.{TotalsDone, SentDone}
 use Rattle.by_columns.proofs.ByColumns.{totals_done, sent_done, totals_all, sent_all}
 
@@ -27,7 +26,8 @@ module _ (l : Lifted) where
   K : Known l.code.code l.sizes (work_of l.code.code)
   K = known l (work_of l.code.code) (omega arith)
 
-  pub column_fits : (v : ℕ) (edges : List ℕ) → ColumnList (code_graph l.code.code) v edges → Fits l.code.code.z l.sizes.slots l.lists.now.turn edges
+  pub column_fits : (v : ℕ) (edges : List ℕ) → ColumnList (code_graph l.code.code) v edges → (i : ℕ) → i < length edges
+      → Fits l.code.code.z l.sizes.slots l.lists.now.turn (get_or edges i 0)
   column_fits v edges C i h =
       let E = edge_in l (get_or edges i 0) (C.edge_lt i h) in
       record { turn_there = E.turn_there; turn_lt = E.turn_lt; inside = E.slot_end }
@@ -62,9 +62,7 @@ module _ (l : Lifted) where
         totals_done g z K.lift (code_simple l.code.code) channel to_bits v v_lt edges C l.lists.now.turn (turn_at l) t is w n all
         (omega (arith, long, K.bits_is))
 
-    pub sent_told : (w w' : List Float)
-        → Written nan 0 (Of edges (length edges) z) (λ s. sub binary32 (number t ((s % z + get_or l.lists.now.turn (s / z) 0) % z)) (number to_bits s)) w w'
-        → SentDone g z channel to_bits v w w'
+    pub sent_told : (w w' : List Float) → Sent z l.lists.now.turn edges t to_bits w w' → SentDone g z channel to_bits v w w'
     sent_told w w' W = sent_done g z K.lift (code_simple l.code.code) channel to_bits v v_lt edges C l.lists.now.turn (turn_at l) t is w w' W
 
   -- all columns

@@ -10,6 +10,7 @@ use sizes::Lifted;
 use totals::Column;
 
 // Column v.
+#[tactic(auto, using(crate::proofs::Lent::column_fits, crate::proofs::Lent::column_ends))]
 fn column(
     l: &Lifted,
     v: usize,

@@ -268,6 +268,12 @@ put_written d at z n l part f e fits long is =
     ap₂ (λ x y. take at l ++ (x ++ y)) (tabulated d f z part long is) (drop-drop n at l ∙ ap (λ (k : ℕ). drop (at + k) l) e) in
     subst (Written d at (λ t. t < z) f l) (sym same) (written_rewritten d at z f l fits)
 
+-- a list of n that is written at all its places, key by key, is f all through
+pub upto_tabulated : {A : Type 0} {d : A} {key : ℕ → ℕ} {f : ℕ → A} {w w' : List A} (n k : ℕ) → length w ≡ n → ((s : ℕ) → s < n → key s < k)
+    → Written d 0 (Upto (λ s. s < n) key k) f w w' → w' ≡ tabulate f n
+upto_tabulated {A} {d} {key} {f} {w} {w'} n k long below W =
+    tabulated d f n w' (W.long ∙ long) (λ s h. rw zero-add at (W.at s (record { among = h; below = below s h })))
+
 -- a list that is written from the front, and held f already past what is written, is f all through
 pub filled : {A : Type 0} (d : A) (f : ℕ → A) (w : List A) {w' : List A} (k : ℕ) → Written d 0 (Upto (λ s. s < length w) (λ s. s) k) f w w'
     → ((s : ℕ) → k ≤ s → s < length w → get_or w s d ≡ f s) → w' ≡ tabulate f (length w)

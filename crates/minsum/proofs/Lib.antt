@@ -1,2 +1,3 @@
--- Scratch. Assumes nothing.
+-- The laws of the check pass, and of an iteration in its regions. Assumes nothing.
+pub mod Rows
 pub mod Iterated

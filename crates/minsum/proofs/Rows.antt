@@ -9,12 +9,13 @@ use lib.Ieee.{Float, nan}
 use Rattle.laws.specs.Range.{count}
 use Rattle.laws.specs.Written.{Written, tabulate}
 use Rattle.laws.proofs.Slots.{slot_lt, slot_is, edge_lt}
-use Rattle.laws.proofs.Written.{Upto, upto_all, same, tabulated}
+use Rattle.laws.proofs.Written.{Upto, upto_all, same, tabulated, upto_tabulated}
 use Rattle.tables.specs.declared.BaseGraph.{BaseGraph}
 use Rattle.matrix.specs.Edges.{edges, edge_row, row_edges}
 use Rattle.matrix.proofs.ByRow.{row_entry, row_rank, row_rank_lt, of_row}
 use Rattle.matrix.proofs.Simple.{Simple}
 use Rattle.messages.specs.Memory.{slots_of, number}
+use Rattle.messages.specs.Regions.{to_bits_of}
 use Rattle.messages.specs.Iteration.{answer, to_bit}
 use Rattle.slots.specs.Row.{Of}
 use Rattle.minsum.specs.Rows.{RowDone}
@@ -58,10 +59,8 @@ module _ (g : BaseGraph) (z : ℕ) (lift : 0 < z) where
       (subst (λ (x : ℕ). Written nan 0 (Of l (length l) x) (answer factor x l (number m)) w w') is W))
 
   -- all rows
-  pub check_done : (simple : Simple g) (r : ℕ) {f : ℕ → Float} (w w' : List Float) → g.shape.m_b ≤ r → length w ≡ slots_of g z
-      → Written nan 0 (Upto (λ s. s < slots_of g z) (λ s. edge_row g (s / z)) r) f w w'
-      → w' ≡ tabulate f (slots_of g z)
-  unfolding slots_of
-  check_done simple r {f} w w' h long W =
-      let all : Written nan 0 (λ s. s < slots_of g z) f w w' = upto_all W (λ s p. omega (arith, simple.row_lt (s / z) (edge_lt lift p))) in
-      tabulated nan f (slots_of g z) w' (all.long ∙ long) (λ s p. rw zero-add at (all.at s p))
+  pub check_done : (simple : Simple g) (factor : Float) (m : List Float) (r : ℕ) (w w' : List Float) → g.shape.m_b ≤ r → length w ≡ slots_of g z
+      → Written nan 0 (Upto (λ s. s < slots_of g z) (λ s. edge_row g (s / z)) r) (to_bit factor g z (number m)) w w'
+      → w' ≡ to_bits_of factor g z m
+  unfolding to_bits_of slots_of
+  check_done simple factor m r w w' h long W = upto_tabulated (slots_of g z) r long (λ s p. omega (arith, simple.row_lt (s / z) (edge_lt lift p))) W

@@ -15,5 +15,5 @@ pub returns : goal.returns
 returns c =
     let l = c.args.l.now in
     let K = known l (work_of l.code.code) (omega arith) in
-    check_done _ _ K.lift (code_simple l.code.code) c.loop-r.r _ _ (omega (arith, K.rows_is, c.loop-r-test.false)) (omega (arith, c.requires.1, K.slots_is))
+    check_done _ _ K.lift (code_simple l.code.code) c.args.factor c.args.to_checks.now c.loop-r.r _ _ (omega (arith, K.rows_is, c.loop-r-test.false)) (omega (arith, c.requires.1, K.slots_is))
     c.loop-r.invariant
