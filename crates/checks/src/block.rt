@@ -4,8 +4,8 @@ ghost use Rattle.std.specs.Float.{nan};
 ghost use Rattle.laws.specs.Written.{Written};
 ghost use Rattle.messages.specs.Memory.{number};
 ghost use Rattle.messages.specs.Iteration.{answer};
-ghost use Rattle.slots.specs.Row.{Pairs, gathered_four};
-ghost use Rattle.checks.specs.Lanes.{Shows};
+ghost use Rattle.slots.specs.Row.{Pairs};
+ghost use Rattle.checks.specs.Lanes.{Gathers};
 
 use crate::vectors::Four;
 use slots::{Edges, place};
@@ -13,7 +13,7 @@ use slots::{Edges, place};
 // What the messages of a row come to, at the four offsets from t on.
 fn gather(row: Edges, t: usize, to_checks: &[f32]) -> Four
     requires { (t + 4 ≤ row.z) × (length to_checks.now ≡ row.slots) }
-    ensures { Shows result (gathered_four (number to_checks.now) row.entry.z t row.entry.list.now) }
+    ensures { Gathers result 4 (number to_checks.now) row.entry.z t row.entry.list.now }
 {
     let mut l = Four::new();
     for &b in row.list {
@@ -27,7 +27,7 @@ fn gather(row: Edges, t: usize, to_checks: &[f32]) -> Four
 fn scatter(row: Edges, t: usize, l: Four, factor: f32, to_checks: &[f32], to_bits: &mut [f32])
     requires fits { t + 4 ≤ row.z }
     requires long { (length to_checks.now ≡ row.slots) × (length to_bits.old ≡ row.slots) }
-    requires shown { Shows l (gathered_four (number to_checks.now) row.z t row.list.now) }
+    requires gathers { Gathers l 4 (number to_checks.now) row.z t row.list.now }
     ensures { Written nan 0 (Pairs row.entry.list.now (length row.entry.list.now) row.entry.z t t) (answer factor row.entry.z row.entry.list.now (number to_checks.now)) to_bits.old to_bits.new }
 {
     for &b in row.list {

@@ -5,8 +5,8 @@ ghost use Rattle.std.specs.Float.{nan};
 ghost use Rattle.laws.specs.Written.{Written};
 ghost use Rattle.messages.specs.Memory.{number};
 ghost use Rattle.messages.specs.Iteration.{answer};
-ghost use Rattle.slots.specs.Row.{Of, Pairs, gathered_four};
-ghost use Rattle.checks.specs.Lanes.{Shows};
+ghost use Rattle.slots.specs.Row.{Of, Pairs};
+ghost use Rattle.checks.specs.Lanes.{Gathers};
 
 use crate::block::check_block;
 use crate::vectors::Four;
@@ -22,8 +22,8 @@ struct Pair {
 // What the messages of a row come to, at the four offsets from t on and from u on.
 fn gather(row: Edges, t: usize, u: usize, to_checks: &[f32]) -> Pair
     requires { (t + 4 ≤ row.z) × (u + 4 ≤ row.z) × (length to_checks.now ≡ row.slots) }
-    ensures first { Shows result.first (gathered_four (number to_checks.now) row.entry.z t row.entry.list.now) }
-    ensures second { Shows result.second (gathered_four (number to_checks.now) row.entry.z u row.entry.list.now) }
+    ensures first { Gathers result.first 4 (number to_checks.now) row.entry.z t row.entry.list.now }
+    ensures second { Gathers result.second 4 (number to_checks.now) row.entry.z u row.entry.list.now }
 {
     let mut first = Four::new();
     let mut second = Four::new();
@@ -48,7 +48,7 @@ fn scatter(
 )
     requires fits { (t + 4 ≤ row.z) × (u + 4 ≤ row.z) }
     requires long { (length to_checks.now ≡ row.slots) × (length to_bits.old ≡ row.slots) }
-    requires shown { Shows pair.first (gathered_four (number to_checks.now) row.z t row.list.now) × Shows pair.second (gathered_four (number to_checks.now) row.z u row.list.now) }
+    requires gathers { Gathers pair.first 4 (number to_checks.now) row.z t row.list.now × Gathers pair.second 4 (number to_checks.now) row.z u row.list.now }
     ensures { Written nan 0 (Pairs row.entry.list.now (length row.entry.list.now) row.entry.z t u) (answer factor row.entry.z row.entry.list.now (number to_checks.now)) to_bits.old to_bits.new }
 {
     for &b in row.list {

@@ -1,11 +1,11 @@
 // What four checks have gathered, as vectors of 4 lanes.
-ghost use Rattle.std.specs.Prelude.{◌≡◌, ◌+◌, ◌<◌, ◌≤◌, List, length, map, get_or};
+ghost use Rattle.std.specs.Prelude.{◌≡◌, List, length, map, get_or};
 ghost use Rattle.std.specs.Float.{nan};
 ghost use Rattle.laws.specs.Floats;
 ghost use Rattle.laws.specs.Written.{tabulate};
 ghost use Rattle.rule.specs.declared.Least.{Least};
 ghost use Rattle.rule.specs.Rule.{started, taken, answered};
-ghost use Rattle.slots.specs.Row.{Ran, past};
+ghost use Rattle.slots.specs.Row.{past};
 ghost use Rattle.checks.specs.Lanes.{Shows};
 
 use std::simd::prelude::*;
@@ -17,24 +17,6 @@ pub struct Four {
     pub min2: f32x4,
     pub place: u32x4,
     pub sign: mask32x4,
-}
-
-// Puts the first z numbers of a block to the places from `at` on.
-pub fn store_some(to_bits: &mut [f32], at: usize, z: usize, block: f32x4)
-    requires { (0 < z) × (z < 4) × (at + z ≤ length to_bits.old) }
-    ensures { Ran at z (λ j. get_or block j nan) to_bits.old to_bits.new }
-{
-    let x = block.to_array();
-    if z == 1 {
-        to_bits[at] = x[0];
-    } else if z == 2 {
-        to_bits[at] = x[0];
-        to_bits[at + 1] = x[1];
-    } else {
-        to_bits[at] = x[0];
-        to_bits[at + 1] = x[1];
-        to_bits[at + 2] = x[2];
-    }
 }
 
 impl Four {

@@ -1,16 +1,15 @@
 -- Two vectors lane by lane, a select, a load and a store. Assumes nothing.
-use Rattle.std.proofs.Common.{◌≡◌, ◌-◌, ◌^◌, Bool, cond, List, [], ◌∷◌, ◌++◌, ap, ap₂, sym, ◌∙◌, refl, ℕ, zero, suc, ◌+◌, ◌<◌, ◌≤◌, length, map, take, drop, replicate, length-append, length-drop, arith}
-use Rattle.std.proofs.lemmas.List.{drop-replicate, length-replicate, get_or_past, get_or-drop, take_all}
+use Rattle.std.proofs.Common.{◌≡◌, ◌-◌, ◌^◌, Bool, cond, List, [], ◌∷◌, ap, ap₂, sym, ◌∙◌, refl, ℕ, zero, suc, ◌+◌, ◌<◌, ◌≤◌, length, map, arith}
 use Rattle.std.specs.Simd.Lanes.{zip2, sel_l, top}
 use Rattle.std.proofs.lemmas.Simd.{tops_compared, length-chunk, get_or-chunk, length-put_chunk, get_or-put_chunk_below, get_or-put_chunk_at, get_or-put_chunk_above}
 use native.Mathlib.Decide.{dec_lt}
 use mir.Syntax.{Width}
 use mir.Val.{bits, hbits}
-use lib.ListN.{get_or, get_or-append}
+use lib.ListN.{get_or}
 use lib.Lanes.{chunk, put_chunk}
-use lib.Seq.{ext_get_or, get_or-append-add}
+use lib.Seq.{ext_get_or}
 use Rattle.laws.specs.Written.{Written, tabulate}
-use Rattle.laws.proofs.Written.{get_d_tabulate, length_tabulate, tabulate_ext, tabulated}
+use Rattle.laws.proofs.Written.{get_d_tabulate, length_tabulate, tabulate_ext}
 
 -- what a select after the comparison t of two vectors is
 pub selected : {X Y : Type 0} (w : Width) (t : X → X → Bool) (xs ys : List X) (us vs : List Y)
@@ -40,37 +39,6 @@ pub chunk_tabulated : {X : Type 0} (d : X) (i n : ℕ) (xs : List X) → i + n �
 chunk_tabulated d i n xs h =
     ext_get_or d (chunk i n xs) (tabulate (λ j. get_or xs (i + j) d) n) (length-chunk i n xs h ∙ sym (length_tabulate _ n))
     (λ k l. get_or-chunk i n xs k d (omega (arith, l, length-chunk i n xs h)) ∙ sym (get_d_tabulate d _ n k (omega (arith, l, length-chunk i n xs h))))
-
--- a load near the end: what is there, and d past it
-pub padded : {X : Type 0} (d : X) (at n : ℕ) (xs : List X) → at ≤ length xs → length xs ≤ at + n
-    → (rest : List X) → rest ≡ take (length xs - at) (drop at xs)
-    → rest ++ drop (length (take (length xs - at) (drop at xs))) (replicate n d) ≡ tabulate (λ j. get_or xs (at + j) d) n
-padded {X} d at n xs low high rest is = ap₂ (λ r t. r ++ drop (length t) (replicate n d)) (is ∙ whole) whole ∙ all
-  where
-    whole : take (length xs - at) (drop at xs) ≡ drop at xs
-    whole = take_all (length xs - at) (drop at xs) (omega (arith, length-drop at xs))
-
-    past : (m i : ℕ) → get_or (replicate m d) i d ≡ d
-    past zero i = refl
-    past (suc m) zero = refl
-    past (suc m) (suc i) = past m i
-
-    lane : (s : ℕ) → Dec (s < length (drop at xs)) → get_or (drop at xs ++ drop (length (drop at xs)) (replicate n d)) s d ≡ get_or xs (at + s) d
-    lane s (yes p) = get_or-append (drop at xs) _ d s p ∙ get_or-drop at xs s d
-    lane s (no p) =
-        let k = length (drop at xs) in
-        let e : k + (s - k) ≡ s = omega arith in
-        ap (λ (i : ℕ). get_or (drop at xs ++ drop k (replicate n d)) i d) (sym e)
-        ∙ get_or-append-add (drop at xs) _ (s - k) d
-        ∙ ap (λ x. get_or x (s - k) d) (drop-replicate k n d)
-        ∙ past (n - k) (s - k)
-        ∙ sym (get_or_past xs (at + s) d (omega (arith, length-drop at xs)))
-
-    all : drop at xs ++ drop (length (drop at xs)) (replicate n d) ≡ tabulate (λ j. get_or xs (at + j) d) n
-    all =
-        tabulated d _ n _
-        (omega (arith, length-append (drop at xs) (drop (length (drop at xs)) (replicate n d)), length-drop (length (drop at xs)) (replicate n d), length-replicate n d, length-drop at xs))
-        (λ s h. lane s (dec_lt s (length (drop at xs))))
 
 -- a store
 pub chunk_put : {X : Type 0} (d : X) (i n : ℕ) (xs ys : List X) → length ys ≡ n → i + n ≤ length xs

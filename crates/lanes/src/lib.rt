@@ -2,7 +2,7 @@
 // as a vector's number of lanes is. What these functions require, their callers in convergence, checks, segments and word meet.
 #![tactic(auto)]
 
-ghost use Rattle.std.specs.Prelude.{◌≡◌, ◌+◌, ◌<◌, ◌≤◌, length, get_or};
+ghost use Rattle.std.specs.Prelude.{◌≡◌, ℕ, ◌+◌, ◌<◌, ◌≤◌, length, get_or};
 ghost use Rattle.std.specs.Float.Ieee.{add, sub};
 ghost use Rattle.std.specs.Float.{nan, binary32};
 ghost use Rattle.laws.specs.Written.{tabulate, Written};
@@ -17,17 +17,13 @@ pub fn load<const N: usize>(work: &[f32], at: usize) -> Simd<f32, N>
     Simd::from_slice(&work[at..])
 }
 
-// The same near the end of the numbers: past it the lanes hold NaN.
-pub fn load_some<const N: usize>(work: &[f32], at: usize) -> Simd<f32, N>
-    requires { at ≤ length work.now }
-    ensures { result ≡ tabulate (λ j. get_or work.now (at + j) nan) N }
+// Z numbers from `at` on, in the first lanes; the others hold zeros.
+pub fn load_some<const Z: usize, const N: usize>(work: &[f32], at: usize) -> Simd<f32, N>
+    requires { (at + Z ≤ length work.now) × (Z ≤ N) }
+    ensures { (j : ℕ) → j < Z → get_or result j nan ≡ get_or work.now (at + j) nan }
 {
-    if at + N <= work.len() {
-        return load(work, at);
-    }
-    let rest = &work[at..];
-    let mut lanes = [f32::NAN; N];
-    lanes[..rest.len()].copy_from_slice(rest);
+    let mut lanes = [0.0; N];
+    lanes[..Z].copy_from_slice(&work[at..at + Z]);
     Simd::from_array(lanes)
 }
 
@@ -37,6 +33,17 @@ pub fn store<const N: usize>(work: &mut [f32], at: usize, block: Simd<f32, N>)
     ensures { Written nan at (λ j. j < N) (λ j. get_or block.entry j nan) work.old work.new }
 {
     block.copy_to_slice(&mut work[at..]);
+}
+
+// Puts the first Z lanes of a block to the places from `at` on.
+pub fn store_some<const Z: usize, const N: usize>(work: &mut [f32], at: usize, block: Simd<f32, N>)
+    requires { (at + Z ≤ length work.old) × (Z ≤ N) }
+    ensures { Written nan at (λ j. j < Z) (λ j. get_or block.entry j nan) work.old work.new }
+{
+    let lanes = block.to_array();
+    for j in 0..Z {
+        work[at + j] = lanes[j];
+    }
 }
 
 // The sums of the numbers from a on and those from b on.

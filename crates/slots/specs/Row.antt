@@ -3,9 +3,8 @@ use Rattle.std.specs.Prelude.{◌≡◌, false, cond, List, ℕ, ◌+◌, ◌*�
 use Rattle.std.specs.Float.{nan, binary32}
 use Rattle.std.specs.Float.Ieee.{mul}
 use Rattle.laws.specs.Floats.{negative}
-use Rattle.laws.specs.Written.{Written, tabulate}
+use Rattle.laws.specs.Written.{Written}
 use Rattle.rule.specs.declared.Least.{Least}
-use Rattle.messages.specs.Iteration.{gathered}
 
 -- slot s is one of the first n base edges of l
 pub record Of (l : List ℕ) (n z s : ℕ) : Type 0 where
@@ -24,10 +23,6 @@ Ran at n f w w' = Written nan at (λ i. i < n) f w w'
 -- what stands for the records past the end of a list
 abbrev pub past : Least
 past = record { «min1» = nan; «min2» = nan; argmin = 0; sign = false }
-
--- what the checks at the four offsets from t on gather
-unfoldable pub gathered_four : (ℕ → Float) → ℕ → ℕ → List ℕ → List Least
-gathered_four m z t l = tabulate (λ j. gathered m z (t + j) l) 4
 
 -- offset x is one of the four from t on
 pub record Near (t x : ℕ) : Type 0 where

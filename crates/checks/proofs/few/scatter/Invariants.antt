@@ -7,5 +7,5 @@ use Rattle.slots.specs.Row.{Of}
 use Rattle.checks.proofs.few.scatter.Given as goal
 
 abbrev pub invariant-loop-b : goal.invariant-loop-b
-invariant-loop-b l =
-    Written nan 0 (Of l.row.list.now l.b-index l.row.z) (answer l.factor l.row.z l.row.list.now (number l.to_checks)) l.initial.to_bits l.to_bits
+invariant-loop-b g l =
+    Written nan 0 (Of l.row.list.now l.b-index g.row.Z) (answer l.factor g.row.Z l.row.list.now (number l.to_checks)) l.initial.to_bits l.to_bits
