@@ -51,12 +51,18 @@ module _ (g : BaseGraph) (z : ℕ) (lift : 0 < z) where
       s
       (agree s h)
 
+  pub added_agrees : (m m' : ℕ → Float) → ((s : ℕ) → s < slots_of g z → m' s ≡ m s) → (v : ℕ) (x : Float)
+      → folded (added g z m' v) x (edges_by_row g g.shape.m_b) ≡ folded (added g z m v) x (edges_by_row g g.shape.m_b)
+  unfolding added slots_of
+  added_agrees m m' agree v x =
+      let l : List ℕ = edges_by_row g g.shape.m_b in
+      folded_ext (added g z m' v) (added g z m v) x l
+      (λ i k y. ap (λ n. cond (eqb (edge_column g (get_or l i 0)) (v / z)) (add binary32 y n) y)
+      (agree (slot_of g z (get_or l i 0) v) (slot_below g z (get_or l i 0) v lift (edges g) (by_row_entry g g.shape.m_b i k))))
+
   pub total_agrees : (w w' : List Float) → ((s : ℕ) → s < slots_of g z → reading w' (to_bits_at g z) s ≡ reading w (to_bits_at g z) s)
       → (v : ℕ) → get_or w' v nan ≡ get_or w v nan → total g z w' v ≡ total g z w v
-  unfolding total added slots_of
+  unfolding total
   total_agrees w w' agree v e =
-      let l : List ℕ = edges_by_row g g.shape.m_b in
-      folded_ext (added g z (reading w' (to_bits_at g z)) v) (added g z (reading w (to_bits_at g z)) v) (get_or w' v nan) l
-      (λ i k y. ap (λ m. cond (eqb (edge_column g (get_or l i 0)) (v / z)) (add binary32 y m) y)
-      (agree (slot_of g z (get_or l i 0) v) (slot_below g z (get_or l i 0) v lift (edges g) (by_row_entry g g.shape.m_b i k))))
-      ∙ ap (λ y. folded (added g z (reading w (to_bits_at g z)) v) y l) e
+      added_agrees (reading w (to_bits_at g z)) (reading w' (to_bits_at g z)) agree v (get_or w' v nan)
+      ∙ ap (λ y. folded (added g z (reading w (to_bits_at g z)) v) y (edges_by_row g g.shape.m_b)) e
