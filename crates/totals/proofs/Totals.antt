@@ -1,5 +1,5 @@
 -- The total of a bit, and those of a column, over one base edge more. Assumes nothing.
-use Rattle.std.proofs.Common.{◌≡◌, refl, sym, ap, ap₂, ◌∙◌, List, [], ℕ, ◌+◌, ◌-◌, ◌*◌, ◌%◌, ◌<◌, ◌≤◌, length, take, drop, arith}
+use Rattle.std.proofs.Common.{◌≡◌, refl, sym, ap, ap₂, ◌∙◌, List, [], ℕ, ◌+◌, ◌-◌, ◌*◌, ◌%◌, ◌<◌, length, take, drop, arith}
 use native.Mathlib.Nat.{mod-lt}
 use lib.Ieee.{Float, nan, add, binary32}
 use lib.ListN.{get_or}
