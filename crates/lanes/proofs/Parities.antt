@@ -1,5 +1,5 @@
 -- Parities, as a mask: it is read as numbers, of all bits or none. Assumes nothing.
-use Rattle.std.proofs.Common.{◌≡◌, ◌-◌, ◌^◌, Bool, true, false, cond, List, [], ◌∷◌, ap, ap₂, ◌∙◌, refl, ℕ, zero, suc, ℤ, length, map, replicate, bit_xor, arith}
+use Rattle.std.proofs.Common.{◌≡◌, ◌-◌, ◌^◌, Bool, true, false, cond, List, [], ◌∷◌, ap, ap₂, ◌∙◌, refl, ℕ, zero, suc, length, map, replicate, bit_xor, arith}
 use mathlib.Core.Bool.{xor}
 use Rattle.std.specs.Simd.Lanes.{zip2, top}
 use mir.Syntax.{w32}
@@ -11,14 +11,18 @@ use Rattle.lanes.specs.Masks.{mask_of}
 abbrev pub ones : Bool → ℕ
 ones b = cond b (2 ^ bits w32 - 1) 0
 
-xors : (a b : Bool) → bit_xor (of_z w32 (mask_of a)) (ones b) ≡ ones (xor a b)
+pub xored : (a b : Bool) → bit_xor (ones a) (ones b) ≡ ones (xor a b)
 unfolding xor
-xors true true = refl
-xors true false = refl
-xors false true = refl
-xors false false = refl
+xored true true = refl
+xored true false = refl
+xored false true = refl
+xored false false = refl
 
--- a mask that is passed, and one that is kept
+-- a lane of a mask that is kept, and a mask that is passed
+kept : (b : Bool) → of_z w32 (mask_of b) ≡ ones b
+kept true = refl
+kept false = refl
+
 pub passed : (odd : List ℕ) (bs : List Bool) → odd ≡ map ones bs → map (to_z w32) odd ≡ map mask_of bs
 passed odd bs e = ap (map (to_z w32)) e ∙ by bs
   where
@@ -27,17 +31,6 @@ passed odd bs e = ap (map (to_z w32)) e ∙ by bs
     one false = refl
 
     by : (bs : List Bool) → map (to_z w32) (map ones bs) ≡ map mask_of bs
-    by [] = refl
-    by (b ∷ bs) = ap₂ ◌∷◌ (one b) (by bs)
-
-pub kept : (odd : List ℤ) (bs : List Bool) → odd ≡ map mask_of bs → map (of_z w32) odd ≡ map ones bs
-kept odd bs e = ap (map (of_z w32)) e ∙ by bs
-  where
-    one : (b : Bool) → of_z w32 (mask_of b) ≡ ones b
-    one true = refl
-    one false = refl
-
-    by : (bs : List Bool) → map (of_z w32) (map mask_of bs) ≡ map ones bs
     by [] = refl
     by (b ∷ bs) = ap₂ ◌∷◌ (one b) (by bs)
 
@@ -60,4 +53,4 @@ parities zero (b ∷ bs) [] e = refl
 parities zero (b ∷ bs) (m ∷ ms) e = absurd (omega (arith, e))
 parities (suc n) bs [] e = absurd (omega (arith, e))
 parities (suc n) [] (m ∷ ms) e = refl
-parities (suc n) (b ∷ bs) (m ∷ ms) e = ap₂ ◌∷◌ (xors b (negative m)) (parities n bs ms (omega (arith, e)))
+parities (suc n) (b ∷ bs) (m ∷ ms) e = ap₂ ◌∷◌ (ap (λ x. bit_xor x (ones (negative m))) (kept b) ∙ xored b (negative m)) (parities n bs ms (omega (arith, e)))

@@ -1,15 +1,13 @@
 // The word that a read writes: the decisions in transmitted order, and whether they are a codeword.
 #![tactic(auto)]
 
-ghost use Rattle.std.specs.Prelude.{◌≡◌, ◌&&◌, ◌+◌, ◌<◌, ◌≤◌, eqb, length, map};
-ghost use Rattle.laws.specs.Written.{Written};
+ghost use Rattle.std.specs.Prelude.{◌≡◌, ◌&&◌, ℕ, ◌+◌, ◌≤◌, eqb, length};
 ghost use Rattle.laws.specs.Floats.{negative};
 ghost use Rattle.matrix.specs.Encoding.{bit};
-ghost use Rattle.messages.specs.Memory.{reading};
 ghost use Rattle.bits.specs.Sums.{Bits};
 ghost use Rattle.ldpc.specs.Code.{work_of};
 ghost use Rattle.coder.specs.Calls.{unsatisfied_of};
-ghost use Rattle.word.specs.Word.{word_of};
+ghost use Rattle.word.specs.Word.{decisions_of, Decided, word_of};
 
 use ldpc::ValidCode;
 use std::simd::prelude::*;
@@ -18,12 +16,12 @@ use std::simd::prelude::*;
 fn decision(total: f32) -> u8
     ensures { result ≡ bit (negative total) }
 {
-    if rule::negative(total) { 1 } else { 0 }
+    u8::from(rule::negative(total))
 }
 
 // The decisions on sixteen.
 fn decisions(totals: f32x16) -> u8x16
-    ensures { result ≡ map (λ x. bit (negative x)) totals }
+    ensures { result ≡ decisions_of totals }
 {
     totals
         .simd_lt(f32x16::splat(0.0))
@@ -31,20 +29,46 @@ fn decisions(totals: f32x16) -> u8x16
         .cast()
 }
 
-// Writes the decisions on n totals, from `at` on, to the places from `to` on.
-fn decide(work: &[f32], at: usize, n: usize, out: &mut [u8], to: usize)
-    requires { (at + n ≤ length work.now) × (to + n ≤ length out.old) }
-    ensures { Written 0 to (λ i. i < n) (λ i. bit (negative (reading work.now at i))) out.old out.new }
+// Writes the decisions on totals, one by one.
+fn decide_singly(totals: &[f32], out: &mut [u8])
+    requires { length out.old ≡ length totals.now }
+    ensures { out.new ≡ decisions_of totals.now }
 {
-    let mut i = 0;
-    while n - i >= 16 {
-        let m = lanes::load::<16>(work, at + i);
-        decisions(m).copy_to_slice(&mut out[to + i..]);
-        i += 16;
+    for (i, x) in out.iter_mut().enumerate() {
+        *x = decision(totals[i]);
     }
-    while i < n {
-        out[to + i] = decision(work[at + i]);
-        i += 1;
+}
+
+// Writes sixteen of them, from a place on that does not come after those that are written.
+fn decide_sixteen(totals: &[f32], at: usize, out: &mut [u8])
+    requires room { at + 16 ≤ length totals.now }
+    requires same { length out.old ≡ length totals.now }
+    ensures { (n : ℕ) → at ≤ n → Decided n totals.now out.old → Decided (at + 16) totals.now out.new }
+{
+    decisions(lanes::load(totals, at)).copy_to_slice(&mut out[at..]);
+}
+
+// Writes all of them, sixteen at a time; the last sixteen go back as far as they must.
+fn decide_by_sixteens(totals: &[f32], out: &mut [u8])
+    requires long { 16 ≤ length totals.now }
+    requires same { length out.old ≡ length totals.now }
+    ensures { out.new ≡ decisions_of totals.now }
+{
+    for i in 0..totals.len() / 16 {
+        decide_sixteen(totals, 16 * i, out);
+    }
+    decide_sixteen(totals, totals.len() - 16, out);
+}
+
+// Writes the decisions on totals. Where there are fewer than sixteen, no vector is loaded.
+fn decide(totals: &[f32], out: &mut [u8])
+    requires { length out.old ≡ length totals.now }
+    ensures { out.new ≡ decisions_of totals.now }
+{
+    if totals.len() >= 16 {
+        decide_by_sixteens(totals, out);
+    } else {
+        decide_singly(totals, out);
     }
 }
 
@@ -56,10 +80,12 @@ fn write_word(code: ValidCode, work: &[f32], out: &mut [u8])
     ensures { out.new ≡ word_of code.code work.now }
 {
     let k = code.code.k;
-    let bits = sizes::sizes_of(code).bits;
     let end = code.info_end();
-    decide(work, bits, k, out, 0);
-    decide(work, bits + end, bits - end, out, k);
+    let bits = sizes::sizes_of(code).bits;
+    let totals = &work[bits..2 * bits];
+    let (info, parity) = out.split_at_mut(k);
+    decide(&totals[..k], info);
+    decide(&totals[end..], parity);
 }
 
 // Whether a decode that converged has written a codeword.
