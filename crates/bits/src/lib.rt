@@ -7,5 +7,5 @@ mod sums;
 mod words;
 
 pub use rows::{copy_info, step_row, total_of, turn_back};
-pub use sums::{add_turned, clipped};
+pub use sums::{add_turned, clipped, differ};
 pub use words::{Bits, count_ones};

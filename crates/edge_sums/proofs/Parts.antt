@@ -19,7 +19,7 @@ use Rattle.ldpc.specs.Code.{code_graph, info_end}
 use Rattle.edge_sums.specs.Sums.{PartOf}
 
 -- an information bit of the lifted word
-lifted_info : (k info : ℕ) (word : List ℕ) (v : ℕ) → v < info → lifted k info word v ≡ (ltb v k && eqb (get_or word v 0) 1)
+pub lifted_info : (k info : ℕ) (word : List ℕ) (v : ℕ) → v < info → lifted k info word v ≡ (ltb v k && eqb (get_or word v 0) 1)
 unfolding lifted is_sent place_of
 lifted_info k info word v h = by (dec_lt v k)
   where
@@ -28,7 +28,7 @@ lifted_info k info word v h = by (dec_lt v k)
     by (no l) = rw (le-ltb v k (omega arith), lt-leb info v h)
 
 -- past a word's end the bytes are 0
-absent : (word : List ℕ) (v : ℕ) → length word ≤ v → eqb (get_or word v 0) 1 ≡ false
+pub absent : (word : List ℕ) (v : ℕ) → length word ≤ v → eqb (get_or word v 0) 1 ≡ false
 absent word v h = ap (λ (x : ℕ). eqb x 1) (get_or-eq_default word 0 {n = v} h)
 
 -- the first k bytes of a word

@@ -55,12 +55,41 @@ fn add_column(g: &CodeGraph, column: usize, word: Bits<'_>, sums: &mut [u8])
     }
 }
 
-// Writes the sums over the edges of the information columns, for every check.
-fn info_sums(g: &CodeGraph, word: Bits<'_>, sums: &mut [u8])
-    requires { length sums.old ≡ checks_of g.now.code.code }
+// The same at a lift of 1, where a column is one bit: no slice of the sums, and no turn.
+fn add_bit(g: &CodeGraph, column: usize, word: Bits<'_>, sums: &mut [u8])
+    requires lift { g.now.code.code.z ≡ 1 }
+    requires column { (column < g.now.graph.shape.k_b) × (column < g.now.code.code.k) × (column < length word.bytes.now) }
+    requires before { sums.old ≡ sums_of g.now.code.code word.bytes.now (3 * column) }
+    ensures { sums.new ≡ sums_of g.now.code.code word.entry.bytes.now (3 * (column + 1)) }
+{
+    let bit = word.bytes[column];
+    let first = 3 * column;
+    for b in first..first + 3 {
+        let e = g.info_edge(b);
+        let sum = &mut sums[e.row];
+        *sum = bits::differ(*sum, bit);
+    }
+}
+
+// Adds the edges of all information columns at a lift of 1. A bit that the word lacks is 0, and adds nothing.
+fn add_bits(g: &CodeGraph, word: Bits<'_>, sums: &mut [u8])
+    requires { (g.now.code.code.z ≡ 1) × (sums.old ≡ sums_of g.now.code.code word.bytes.now 0) }
     ensures { sums.new ≡ sums_of g.now.code.code word.entry.bytes.now (3 * g.now.graph.shape.k_b) }
 {
-    sums.fill(0);
+    for column in 0..g.code.code.k.min(word.bytes.len()) {
+        add_bit(g, column, word, sums);
+    }
+}
+
+// Adds the edges of all information columns. A lift of 1 has a way of its own: without it an encoding of 60 bits takes a third longer.
+fn add_columns(g: &CodeGraph, word: Bits<'_>, sums: &mut [u8])
+    requires { sums.old ≡ sums_of g.now.code.code word.bytes.now 0 }
+    ensures { sums.new ≡ sums_of g.now.code.code word.entry.bytes.now (3 * g.now.graph.shape.k_b) }
+{
+    if g.code.code.z == 1 {
+        add_bits(g, word, sums);
+        return;
+    }
     for column in 0..g.graph.shape.k_b {
         add_column(g, column, word, sums);
     }
@@ -81,7 +110,8 @@ pub fn row_sums(g: &CodeGraph, word: Bits<'_>, n: usize, sums: &mut [u8])
     requires { (3 * g.now.graph.shape.k_b ≤ n) × (n ≤ edges g.now.graph) × (length sums.old ≡ checks_of g.now.code.code) }
     ensures { sums.new ≡ sums_of g.now.code.code word.entry.bytes.now n }
 {
-    info_sums(g, word, sums);
+    sums.fill(0);
+    add_columns(g, word, sums);
     for b in 3 * g.graph.shape.k_b..n {
         add_next(g, b, word, sums);
     }
