@@ -1,8 +1,6 @@
 -- What the loops over the base edges of a row read and write. Assumes nothing.
-use Rattle.std.specs.Prelude.{◌≡◌, false, cond, List, ℕ, ◌+◌, ◌*◌, ◌/◌, ◌%◌, ◌<◌, ◌≤◌, length, get_or, Float, ◌⊎◌}
-use Rattle.std.specs.Float.{nan, binary32}
-use Rattle.std.specs.Float.Ieee.{mul}
-use Rattle.laws.specs.Floats.{negative}
+use Rattle.std.specs.Prelude.{◌≡◌, false, List, ℕ, ◌+◌, ◌*◌, ◌/◌, ◌%◌, ◌<◌, ◌≤◌, length, get_or, Float, ◌⊎◌}
+use Rattle.std.specs.Float.{nan}
 use Rattle.laws.specs.Written.{Written}
 use Rattle.rule.specs.declared.Least.{Least}
 
@@ -33,7 +31,3 @@ pub record Near (t x : ℕ) : Type 0 where
 pub record Pairs (l : List ℕ) (n z t u s : ℕ) : Type 0 where
   pub of : Of l n z s
   pub near : Near t (s % z) ⊎ Near u (s % z)
-
--- a magnitude, weighed by the sign of the message m s
-unfoldable pub weighed : Float → Float → Float → (ℕ → Float) → ℕ → Float
-weighed below other magnitude m s = mul binary32 (cond (negative (m s)) below other) magnitude
