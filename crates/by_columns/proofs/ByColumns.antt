@@ -8,17 +8,14 @@ use borrow.Rule.Slice.PartMut.{put_mid}
 use lib.ListN.{length, take, drop, get_or}
 use lib.Ieee.{Float, nan, add, sub, binary32}
 use lib.Seq.{get_or-take, get_or-drop}
-use Rattle.laws.specs.Range.{folded}
-use Rattle.laws.specs.Written.{Written, At, tabulate}
+use Rattle.laws.specs.Written.{Written, tabulate}
 use Rattle.laws.proofs.Folded.{folded_ext}
 use Rattle.laws.proofs.Slots.{slot_lt, slot_div, slot_mod, slot_is, edge_lt, row_le}
-use Rattle.laws.proofs.Written.{Upto, upto_run, upto_all, same, block, upto_tabulated, get_d_tabulate, length_tabulate, put_written}
+use Rattle.laws.proofs.Written.{Upto, same, block, upto_tabulated, get_d_tabulate, length_tabulate, put_written}
 use Rattle.tables.specs.declared.BaseGraph.{BaseGraph}
-use Rattle.matrix.specs.Edges.{edges, edge_column, edge_shift, bit_at, slot_of, edges_by_row, ColumnList}
+use Rattle.matrix.specs.Edges.{edges, edge_column, edge_shift, bit_at, slot_of, ColumnList}
 use Rattle.matrix.proofs.ByColumn.{by_column}
-use Rattle.matrix.proofs.ByRow.{of_row, row_rank}
 use Rattle.matrix.proofs.Simple.{Simple}
-use Rattle.slots.specs.Row.{Of}
 use Rattle.messages.specs.Memory.{bits_of, slots_of, number}
 use Rattle.messages.specs.Iteration.{added}
 use Rattle.messages.specs.Regions.{total_of, totals_of, to_check_of, to_checks_of}

@@ -1,17 +1,16 @@
 -- The laws of the bit pass in the numbers of a call. Assumes nothing.
 use mathlib.Core.Path.{◌≡◌, sym, subst, ◌∙◌}
 use mathlib.Core.List.{List}
-use Prim.Native.Nat.{ℕ, ◌+◌, ◌*◌, ◌/◌, ◌%◌, ◌<◌, ◌≤◌}
+use Prim.Native.Nat.{ℕ, ◌+◌, ◌*◌, ◌/◌, ◌<◌, ◌≤◌}
 use native.Mathlib.Omega.{arith}
 use borrow.Rule.Slice.PartMut.{put_mid}
 use lib.ListN.{length, take, drop, get_or}
-use lib.Ieee.{Float, nan, sub, binary32}
+use lib.Ieee.{Float, nan}
 use Rattle.laws.specs.Written.{Written, tabulate}
 use Rattle.laws.proofs.Slots.{row_le}
 use Rattle.laws.proofs.Written.{Upto}
 use Rattle.tables.specs.declared.BaseGraph.{BaseGraph}
 use Rattle.matrix.specs.Edges.{edge_column, ColumnList}
-use Rattle.slots.specs.Row.{Of}
 use Rattle.messages.specs.Memory.{bits_of, slots_of, number}
 use Rattle.messages.specs.Regions.{total_of, totals_of, to_check_of, to_checks_of}
 use Rattle.ldpc.specs.Code.{code_graph, work_of}
@@ -72,12 +71,12 @@ module _ (l : Lifted) where
 
     pub totals_end : length w ≡ l.sizes.bits
         → Written nan 0 (Upto (λ u. u < bits_of (code_graph l.code.code) l.code.code.z) (λ u. u / l.code.code.z) v)
-          (total_of (code_graph l.code.code) l.code.code.z channel to_bits) w w'
+        (total_of (code_graph l.code.code) l.code.code.z channel to_bits) w w'
         → w' ≡ totals_of (code_graph l.code.code) l.code.code.z channel to_bits
     totals_end long W = totals_all (code_graph l.code.code) l.code.code.z K.lift (code_simple l.code.code) channel to_bits v w w' v_all (long ∙ K.bits_is) W
 
     pub sent_end : length w ≡ l.sizes.slots
         → Written nan 0 (Upto (λ s. s < slots_of (code_graph l.code.code) l.code.code.z) (λ s. edge_column (code_graph l.code.code) (s / l.code.code.z)) v)
-          (to_check_of (code_graph l.code.code) l.code.code.z channel to_bits) w w'
+        (to_check_of (code_graph l.code.code) l.code.code.z channel to_bits) w w'
         → w' ≡ to_checks_of (code_graph l.code.code) l.code.code.z channel to_bits
     sent_end long W = sent_all (code_graph l.code.code) l.code.code.z K.lift (code_simple l.code.code) channel to_bits v w w' v_all (long ∙ K.slots_is) W

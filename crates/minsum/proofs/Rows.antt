@@ -3,13 +3,13 @@ use mathlib.Core.Path.{◌≡◌, refl, sym, ap, subst, ◌∙◌}
 use mathlib.Core.List.{List}
 use Prim.Native.Nat.{ℕ, ◌*◌, ◌/◌, ◌%◌, ◌<◌, ◌≤◌}
 use native.Mathlib.Omega.{arith}
-use native.Mathlib.Nat.{mod-lt, zero-add}
+use native.Mathlib.Nat.{mod-lt}
 use lib.ListN.{length, get_or}
 use lib.Ieee.{Float, nan}
 use Rattle.laws.specs.Range.{count}
-use Rattle.laws.specs.Written.{Written, tabulate}
+use Rattle.laws.specs.Written.{Written}
 use Rattle.laws.proofs.Slots.{slot_lt, slot_is, edge_lt}
-use Rattle.laws.proofs.Written.{Upto, upto_all, same, tabulated, upto_tabulated}
+use Rattle.laws.proofs.Written.{Upto, same, upto_tabulated}
 use Rattle.tables.specs.declared.BaseGraph.{BaseGraph}
 use Rattle.matrix.specs.Edges.{edges, edge_row, row_edges}
 use Rattle.matrix.proofs.ByRow.{row_entry, row_rank, row_rank_lt, of_row}
