@@ -1,11 +1,13 @@
--- A part of a region that was lent and is put back: what is written there, and nowhere else. Assumes nothing.
+-- A part of a region that was lent: its numbers, and what is written there, and nowhere else, when it is put back. Assumes nothing.
 use Rattle.std.proofs.Common.{◌≡◌, List, ◌++◌, sym, ap, ap₂, subst, ◌∙◌, ℕ, ◌+◌, ◌-◌, ◌<◌, ◌≤◌, length, take, drop, arith}
 use native.Mathlib.Decide.{dec_lt}
 use borrow.Rule.Slice.PartMut.{put_mid}
+use lib.Ieee.{Float, nan}
 use lib.ListN.{get_or}
-use lib.Seq.{drop-drop}
+use lib.Seq.{drop-drop, get_or-take, get_or-drop}
 use Rattle.laws.specs.Written.{Written, rewritten, tabulate}
 use Rattle.laws.proofs.Written.{length_rewritten, low_rewritten, at_rewritten, high_rewritten}
+use Rattle.messages.specs.Memory.{number}
 
 module _ {X : Type 0} (d : X) (at z : ℕ) (f : ℕ → X) (w : List X) (fits : at + z ≤ length w) where
   there : Written d at (λ t. t < z) f w (rewritten at z f w)
@@ -29,3 +31,6 @@ module _ {X : Type 0} (d : X) (at z : ℕ) (f : ℕ → X) (w : List X) (fits : 
       let same : put_mid at n w part ≡ rewritten at z f w =
       ap₂ (λ (x y : List X). take at w ++ (x ++ y)) is (drop-drop n at w ∙ ap (λ (k : ℕ). drop (at + k) w) e) in
       subst (Written d at (λ t. t < z) f w) (sym same) there
+
+pub part_number : (m : List Float) (at z n k : ℕ) → n ≡ z → k < z → number (take n (drop at m)) k ≡ number m (at + k)
+part_number m at z n k e l = get_or-take n (drop at m) k nan (omega arith) ∙ get_or-drop at m k nan

@@ -11,9 +11,8 @@ use Rattle.laws.proofs.Slots.{slot_div, slot_mod, slot_is}
 use Rattle.laws.proofs.Written.{Among, run_more, store}
 use Rattle.messages.specs.Memory.{number}
 use Rattle.slots.specs.Row.{Of}
-use Rattle.segments.proofs.Parts.{part_put}
+use Rattle.segments.proofs.Parts.{part_put, part_number}
 use Rattle.totals.specs.Joined.{joined_slot, offset_of, Joins, Fits}
-use Rattle.totals.proofs.Totals.{part_number}
 
 module _ (z : ℕ) (turn edges : List ℕ) (i : ℕ) (h : i < length edges) (w₀ w : List Float) where
   module _ (totals m : List Float) (lift : 0 < z) (b s n k slots : ℕ) (b_is : b ≡ get_or edges i 0) (s_is : s ≡ get_or turn b 0) (n_is : n ≡ z) (k_is : k ≡ z)

@@ -3,12 +3,12 @@ use Rattle.std.proofs.Common.{◌≡◌, refl, sym, ap, ap₂, ◌∙◌, List, 
 use native.Mathlib.Nat.{mod-lt}
 use lib.Ieee.{Float, nan, add, binary32}
 use lib.ListN.{get_or}
-use lib.Seq.{get_or-take, get_or-drop}
 use Rattle.laws.specs.Range.{folded}
 use Rattle.laws.specs.Written.{tabulate}
 use Rattle.laws.proofs.Folded.{folded_more}
 use Rattle.laws.proofs.Written.{tabulated, tabulate_ext, get_d_tabulate}
 use Rattle.messages.specs.Memory.{number}
+use Rattle.segments.proofs.Parts.{part_number}
 use Rattle.totals.specs.Joined.{joined_slot, total_over}
 
 module _ (m : ℕ → Float) (z : ℕ) (turn : List ℕ) (j : ℕ) (x : Float) where
@@ -20,10 +20,6 @@ module _ (m : ℕ → Float) (z : ℕ) (turn : List ℕ) (j : ℕ) (x : Float) w
       → total_over m z turn j x (take (i + 1) l) ≡ add binary32 (total_over m z turn j x (take i l)) (m (joined_slot z turn j (get_or l i 0)))
   unfolding total_over
   total_more l i h = folded_more (λ y b. add binary32 y (m (joined_slot z turn j b))) x l i h
-
--- a number of a part that is lent
-pub part_number : (m : List Float) (at z n k : ℕ) → n ≡ z → k < z → number (take n (drop at m)) k ≡ number m (at + k)
-part_number m at z n k e l = get_or-take n (drop at m) k nan (omega arith) ∙ get_or-drop at m k nan
 
 module _ (m : List Float) (z : ℕ) (turn edges : List ℕ) (w₀ : List Float) where
   -- the totals of a column, over the first i base edges
