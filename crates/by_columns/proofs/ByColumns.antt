@@ -7,11 +7,10 @@ use native.Mathlib.Omega.{arith}
 use borrow.Rule.Slice.PartMut.{put_mid}
 use lib.ListN.{length, take, drop, get_or}
 use lib.Ieee.{Float, nan, add, sub, binary32}
-use lib.Seq.{get_or-take, get_or-drop}
 use Rattle.laws.specs.Written.{Written, tabulate}
 use Rattle.laws.proofs.Folded.{folded_ext}
 use Rattle.laws.proofs.Slots.{slot_lt, slot_div, slot_mod, slot_is, edge_lt, row_le}
-use Rattle.laws.proofs.Written.{Upto, same, block, upto_tabulated, get_d_tabulate, length_tabulate, put_written}
+use Rattle.laws.proofs.Written.{Upto, same, block, upto_tabulated, get_d_tabulate, length_tabulate, put_tabulated, part_at}
 use Rattle.tables.specs.declared.BaseGraph.{BaseGraph}
 use Rattle.matrix.specs.Edges.{edges, edge_column, edge_shift, bit_at, slot_of, ColumnList}
 use Rattle.matrix.proofs.ByColumn.{by_column}
@@ -42,19 +41,19 @@ module _ (g : BaseGraph) (z : ℕ) (lift : 0 < z) (simple : Simple g) (channel t
 
     -- the column's own totals t, of its own part of the channel
     module _ (t : List Float) (is : t ≡ tabulate (λ j. total_over (number to_bits) z turn j (number (take z (drop (v * z) channel)) j) l) z) where
+      by_part : (j : ℕ) → j < z → total_over (number to_bits) z turn j (number (take z (drop (v * z) channel)) j) l ≡ total_of g z channel to_bits (v * z + j)
+      by_part j h = ap (λ y. total_over (number to_bits) z turn j y l) (part_at nan channel (v * z) z z j refl h) ∙ total_is j h
+
       own_at : (j : ℕ) → j < z → number t j ≡ total_of g z channel to_bits (v * z + j)
-      own_at j h =
-          ap (λ x. number x j) is ∙ get_d_tabulate nan _ z j h
-          ∙ ap (λ y. total_over (number to_bits) z turn j y l) (get_or-take z (drop (v * z) channel) j nan h ∙ get_or-drop (v * z) channel j nan)
-          ∙ total_is j h
+      own_at j h = ap (λ x. number x j) is ∙ get_d_tabulate nan _ z j h ∙ by_part j h
 
       pub totals_done : (w : List Float) (n : ℕ) → n ≡ z → bits_of g z ≤ length w → TotalsDone g z channel to_bits v w (put_mid (v * z) n w t)
       unfolding bits_of
       totals_done w n k long =
           let here : v * z + z ≤ bits_of g z = row_le z v_lt in
           block z v (total_of g z channel to_bits) lift
-          (rw zero-add (put_written nan (v * z) z n w t (number t) k (omega arith) (ap length is ∙ length_tabulate _ z) (λ j h. refl)))
-          (λ j h. omega (arith, here)) own_at
+          (rw zero-add (put_tabulated nan (v * z) z n w t _ k (omega arith) is))
+          (λ j h. omega (arith, here)) by_part
 
       pub sent_done : (w w' : List Float) → Sent z turn l t to_bits w w' → SentDone g z channel to_bits v w w'
       unfolding slots_of to_check_of bit_at

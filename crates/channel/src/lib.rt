@@ -31,7 +31,7 @@ fn put_channel(code: ValidCode, rx: &[f32], channel: &mut [f32])
 }
 
 // Everything that a start writes.
-#[tactic(auto, using(crate::proofs::Started::work_is, crate::proofs::Started::bits_are))]
+#[tactic(auto, using(crate::proofs::Started::bits_are))]
 fn put_messages(l: &Lifted, rx: &[f32], work: &mut [f32])
     requires given { length rx.now ≡ l.now.code.code.n_tx }
     requires room { work_of l.now.code.code ≤ length work.old }

@@ -1,10 +1,9 @@
-// Numbers that follow one another, as vectors: loaded and stored, added and subtracted lane by lane. N is a power of two up to 64,
+// Numbers that follow one another, as vectors: loaded and stored. N is a power of two up to 64,
 // as a vector's number of lanes is. What these functions require, their callers in convergence, checks, segments and word meet.
 #![tactic(auto)]
 
 ghost use Rattle.std.specs.Prelude.{◌≡◌, ℕ, ◌+◌, ◌<◌, ◌≤◌, length, get_or};
-ghost use Rattle.std.specs.Float.Ieee.{add, sub};
-ghost use Rattle.std.specs.Float.{nan, binary32};
+ghost use Rattle.std.specs.Float.{nan};
 ghost use Rattle.laws.specs.Written.{tabulate, Written};
 
 use std::simd::prelude::*;
@@ -44,20 +43,4 @@ pub fn store_some<const Z: usize, const N: usize>(work: &mut [f32], at: usize, b
     for j in 0..Z {
         work[at + j] = lanes[j];
     }
-}
-
-// The sums of the numbers from a on and those from b on.
-pub fn sums<const N: usize>(work: &[f32], a: usize, b: usize) -> Simd<f32, N>
-    requires { (a + N ≤ length work.now) × (b + N ≤ length work.now) }
-    ensures { result ≡ tabulate (λ j. add binary32 (get_or work.now (a + j) nan) (get_or work.now (b + j) nan)) N }
-{
-    load(work, a) + load(work, b)
-}
-
-// The numbers from a on, less those from b on.
-pub fn differences<const N: usize>(work: &[f32], a: usize, b: usize) -> Simd<f32, N>
-    requires { (a + N ≤ length work.now) × (b + N ≤ length work.now) }
-    ensures { result ≡ tabulate (λ j. sub binary32 (get_or work.now (a + j) nan) (get_or work.now (b + j) nan)) N }
-{
-    load(work, a) - load(work, b)
 }

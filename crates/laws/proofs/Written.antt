@@ -268,6 +268,16 @@ put_written d at z n l part f e fits long is =
     ap₂ (λ x y. take at l ++ (x ++ y)) (tabulated d f z part long is) (drop-drop n at l ∙ ap (λ (k : ℕ). drop (at + k) l) e) in
     subst (Written d at (λ t. t < z) f l) (sym same) (written_rewritten d at z f l fits)
 
+-- the same of a part that is f all through
+pub put_tabulated : {A : Type 0} (d : A) (at z n : ℕ) (l part : List A) (f : ℕ → A) → n ≡ z → at + z ≤ length l → part ≡ tabulate f z
+    → Written d at (λ t. t < z) f l (put_mid at n l part)
+put_tabulated d at z n l part f e fits is =
+    put_written d at z n l part f e fits (ap length is ∙ length_tabulate f z) (λ t h. ap (λ x. get_or x t d) is ∙ get_d_tabulate d f z t h)
+
+-- a number of a part that is lent
+pub part_at : {A : Type 0} (d : A) (l : List A) (at z n k : ℕ) → n ≡ z → k < z → get_or (take n (drop at l)) k d ≡ get_or l (at + k) d
+part_at d l at z n k e h = get_or-take n (drop at l) k d (omega arith) ∙ get_or-drop at l k d
+
 -- a list of n that is written at all its places, key by key, is f all through
 pub upto_tabulated : {A : Type 0} {d : A} {key : ℕ → ℕ} {f : ℕ → A} {w w' : List A} (n k : ℕ) → length w ≡ n → ((s : ℕ) → s < n → key s < k)
     → Written d 0 (Upto (λ s. s < n) key k) f w w' → w' ≡ tabulate f n

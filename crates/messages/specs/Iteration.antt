@@ -39,13 +39,6 @@ total g z w v = folded (added g z (reading w (to_bits_at g z)) v) (get_or w v na
 unfoldable pub total_pass : BaseGraph → ℕ → List Float → List Float
 total_pass g z w = rewritten (bits_of g z) (bits_of g z) (total g z w) w
 
--- at the start each message to a check is its bit's channel value
-unfoldable pub of_bit : BaseGraph → ℕ → List Float → ℕ → Float
-of_bit g z w s = get_or w (bit_at g z (s / z) (s % z)) nan
-
-unfoldable pub spread_pass : BaseGraph → ℕ → List Float → List Float
-spread_pass g z w = rewritten (to_checks_at g z) (slots_of g z) (of_bit g z w) w
-
 -- the message to the check of slot s: the total of its bit, minus what came in there
 unfoldable pub to_check : BaseGraph → ℕ → List Float → ℕ → Float
 to_check g z w s = sub binary32 (reading w (bits_of g z) (bit_at g z (s / z) (s % z))) (reading w (to_bits_at g z) s)

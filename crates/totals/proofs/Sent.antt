@@ -8,10 +8,9 @@ use lib.ListN.{get_or, set}
 use lib.Ieee.{Float, nan, sub, binary32}
 use Rattle.laws.specs.Written.{Written, tabulate}
 use Rattle.laws.proofs.Slots.{slot_div, slot_mod, slot_is}
-use Rattle.laws.proofs.Written.{Among, run_more, store}
+use Rattle.laws.proofs.Written.{Among, run_more, store, put_tabulated, part_at}
 use Rattle.messages.specs.Memory.{number}
 use Rattle.slots.specs.Row.{Of}
-use Rattle.segments.proofs.Parts.{part_put, part_number}
 use Rattle.totals.specs.Joined.{joined_slot, offset_of, Joins, Fits}
 
 module _ (z : ℕ) (turn edges : List ℕ) (i : ℕ) (h : i < length edges) (w₀ w : List Float) where
@@ -28,9 +27,9 @@ module _ (z : ℕ) (turn edges : List ℕ) (i : ℕ) (h : i < length edges) (w�
         let g = λ (t : ℕ). sub binary32 (number totals ((t + s) % z)) (number (take n (drop (b * z) m)) t) in
         let is : part ≡ tabulate g z = rw k_is at U in
         run_more (b * z) z W
-        (subst (λ (x : ℕ). Written nan x (λ t. t < z) g w (put_mid (b * z) n w part)) (sym (zero-add (b * z))) (part_put nan (b * z) z g w inside n part is n_is))
+        (subst (λ (x : ℕ). Written nan x (λ t. t < z) g w (put_mid (b * z) n w part)) (sym (zero-add (b * z))) (put_tabulated nan (b * z) z n w part g n_is inside is))
         (λ t l.
-        ap₂ (sub binary32) (turned t l) (part_number m (b * z) z n t n_is l))
+        ap₂ (sub binary32) (turned t l) (part_at nan m (b * z) z n t n_is l))
         (λ x p. record { index = p.index; inside = omega (arith, p.inside); is = p.is })
         (λ t l. record { index = i; inside = omega arith; is = sym (slot_div b z t l ∙ b_is) })
         (λ x p. back x p (ℕ_discrete p.index i))

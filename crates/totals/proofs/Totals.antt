@@ -6,9 +6,8 @@ use lib.ListN.{get_or}
 use Rattle.laws.specs.Range.{folded}
 use Rattle.laws.specs.Written.{tabulate}
 use Rattle.laws.proofs.Folded.{folded_more}
-use Rattle.laws.proofs.Written.{tabulated, tabulate_ext, get_d_tabulate}
+use Rattle.laws.proofs.Written.{tabulated, tabulate_ext, get_d_tabulate, part_at}
 use Rattle.messages.specs.Memory.{number}
-use Rattle.segments.proofs.Parts.{part_number}
 use Rattle.totals.specs.Joined.{joined_slot, total_over}
 
 module _ (m : ℕ → Float) (z : ℕ) (turn : List ℕ) (j : ℕ) (x : Float) where
@@ -39,5 +38,5 @@ module _ (m : List Float) (z : ℕ) (turn edges : List ℕ) (w₀ : List Float) 
       (λ j l.
       let lift : 0 < z = omega arith in
       ap₂ (add binary32) (ap (λ v. number v j) W ∙ get_d_tabulate nan _ z j l)
-      (part_number m (b * z) z n ((j + z - s) % z) n_is (mod-lt (j + z - s) lift) ∙ rw (s_is, b_is) refl)
+      (part_at nan m (b * z) z n ((j + z - s) % z) n_is (mod-lt (j + z - s) lift) ∙ rw (s_is, b_is) refl)
       ∙ sym (total_more (number m) z turn j (number w₀ j) edges i h))
