@@ -15,16 +15,15 @@ fn member_at(g: &CodeGraph, check: usize, b: usize) -> Option<usize>
     ensures { result ≡ member_at g.now.code.code check b }
 {
     let c = g.code.code;
-    let z = c.z;
     let e = g.edge(b);
-    if e.row != check / z {
+    if e.row != check / c.z {
         return None;
     }
-    let v = e.column * z + base_edges::rotated(check % z, e.shift, z);
+    let v = e.column * c.z + base_edges::rotated(check % c.z, e.shift, c.z);
     if v < c.k {
         return Some(v);
     }
-    let info = g.graph.shape.k_b * z;
+    let info = g.graph.shape.k_b * c.z;
     if v < info {
         return None;
     }
@@ -56,6 +55,7 @@ pub fn write_members(g: &CodeGraph, check: usize, n: usize, out: &mut [u32])
     for b in 0..n {
         let m = member_at(g, check, b);
         if let Some(place) = m {
+            // a cast of what is below 19,440, where a `try_from` would have an error that cannot come
             out[count] = place as u32;
             count += 1;
         }

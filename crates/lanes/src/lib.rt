@@ -8,7 +8,7 @@ ghost use Rattle.laws.specs.Written.{tabulate, Written};
 
 use std::simd::prelude::*;
 
-// The numbers from `at` on.
+// The numbers from `at` on. The place stands beside the slice, here and below, since what is proved of a block speaks of the whole.
 pub fn load<const N: usize>(work: &[f32], at: usize) -> Simd<f32, N>
     requires { at + N ≤ length work.now }
     ensures { result ≡ tabulate (λ j. get_or work.now (at + j) nan) N }

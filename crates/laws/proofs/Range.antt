@@ -57,12 +57,8 @@ module _ (f : ℕ → ℕ) where
       by (yes q) earlier = rw q (omega arith)
       by (no q) earlier = omega (arith, earlier (omega arith))
 
--- one number more passes, or one fails
+-- one number fails
 module _ (p : ℕ → Bool) where
-  pub every_more : (n : ℕ) → every p n ≡ true → p n ≡ true → every p (n + 1) ≡ true
-  unfolding every
-  every_more n e h = rw (add-one, e, h)
-
   pub every_fails : (n k : ℕ) → k < n → p k ≡ false → every p n ≡ false
   unfolding every
   every_fails zero k h e = absurd (omega arith)

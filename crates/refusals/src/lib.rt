@@ -71,6 +71,7 @@ impl From<Refusal> for Numbers {
 }
 
 impl Refusal {
+    // By the conversion, where a caller would have to name the type that it wants.
     pub fn numbers(self) -> Numbers
         ensures { result ≡ numbers_of self }
     {

@@ -39,7 +39,8 @@ fn decide_singly(totals: &[f32], out: &mut [u8])
     }
 }
 
-// Writes sixteen of them, from a place on that does not come after those that are written.
+// Writes sixteen of them, from a place on that does not come after those that are written. The place stands beside the slices, and no
+// part of them is lent, as the clause speaks of what stands before it.
 fn decide_sixteen(totals: &[f32], at: usize, out: &mut [u8])
     requires room { at + 16 ≤ length totals.now }
     requires same { length out.old ≡ length totals.now }
