@@ -16,9 +16,6 @@ use Rattle.laws.proofs.Some.{some_first, some_ext}
 abbrev pub is_row : List ℕ → ℕ → ℕ → ℕ → Bool
 is_row rows c r e = eqb (entry_of rows c e) r
 
-pub place_le : (rows : List ℕ) (c r : ℕ) → first (is_row rows c r) 3 ≤ 3
-place_le rows c r = (first_least (is_row rows c r) 3).most
-
 module _ (rows : List ℕ) (c : ℕ) (whole : 3 * c + 3 ≤ length rows) where
   pub has_some : (r : ℕ) → has_row rows c r ≡ some (is_row rows c r) 3
   unfolding has_row

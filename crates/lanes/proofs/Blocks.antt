@@ -1,11 +1,10 @@
 -- Runs of numbers that grow by a block or by one number. Assumes nothing.
-use Rattle.std.proofs.Common.{◌≡◌, List, ap, subst, ◌∙◌, ℕ, ◌+◌, ◌<◌, ◌≤◌, length, arith}
+use Rattle.std.proofs.Common.{◌≡◌, List, ap, ◌∙◌, ℕ, ◌+◌, ◌<◌, ◌≤◌, length, arith}
 use mathlib.Core.Logic.{◌⊎◌, inl, inr}
-use native.Mathlib.Nat.{add-zero}
 use native.Mathlib.Decide.{dec_lt}
 use lib.ListN.{get_or, set}
 use Rattle.laws.specs.Written.{Written, tabulate}
-use Rattle.laws.proofs.Written.{Among, get_d_tabulate, none, same, store, run_more}
+use Rattle.laws.proofs.Written.{Among, get_d_tabulate, store, run_more}
 
 module _ {X : Type 0} (d : X) where
   -- the first n places from `at` on are written
@@ -23,16 +22,6 @@ module _ {X : Type 0} (d : X) where
       part : (s : ℕ) → s < m + n → Dec (s < m) → (s < i) ⊎ Among m n s
       part s q (yes p) = inl (omega (arith, p, low_end))
       part s q (no p) = inr (omega arith, q)
-
-  -- the first block of a run, and its first number
-  pub block_first : {at : ℕ} {w w' : List X} (n : ℕ) (f : ℕ → X) {block : List X} → block ≡ tabulate f n
-      → Run at n (λ j. get_or block j d) w w' → Run at n f w w'
-  block_first n f e W = same W (λ s p. p) (λ s p. p) (λ s h. ap (λ l. get_or l s d) e ∙ get_d_tabulate d f n s h)
-
-  pub one_first : {f : ℕ → X} (w : List X) (at : ℕ) (v : X) → at < length w → v ≡ f 0 → Run at 1 f w (set w at v)
-  one_first {f} w at v h e =
-      subst (λ (x : ℕ). Run at 1 f w (set w x v)) (add-zero at)
-      (store {P = λ s. s < 0} 0 v (none (λ s p. omega arith)) (omega arith) e (omega arith) (λ s p. omega arith) (λ s p n. absurd (n (omega arith))))
 
   -- one number more
   pub one_more : {at : ℕ} {f : ℕ → X} {w w' : List X} (i : ℕ) (v : X) → Run at i f w w' → at + i < length w → v ≡ f i

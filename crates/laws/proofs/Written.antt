@@ -1,5 +1,5 @@
--- The laws of `Written`: with no place written; one place or one run more; one run of writes after another; a place written over; and the
--- whole as a list. Assumes nothing.
+-- The laws of `Written`: with no place written; one place or one run more; one run of writes after another; a part that was
+-- lent and is put back; and the whole as a list. Assumes nothing.
 use mathlib.Core.Path.{◌≡◌, refl, sym, ap, ap₂, ◌∙◌, subst}
 use mathlib.Core.Logic.{◌⊎◌, inl, inr, ⊎_elim}
 use mathlib.Core.List.{List, ◌∷◌, ◌++◌}
@@ -111,20 +111,6 @@ module _ {A : Type 0} {d : A} {base : ℕ} {f g : ℕ → A} {w w' w'' : List A}
       part : (s : ℕ) → s < a + b → Dec (s < a) → (s < a) ⊎ Among a b s
       part s q (yes p) = inl p
       part s q (no p) = inr (omega arith, q)
-
--- one place written over
-pub overwrite : {A : Type 0} {d : A} {base : ℕ} {P : ℕ → Type 0} {f g : ℕ → A} {w w' : List A} (k : ℕ) (v : A) → Written d base P f w w'
-    → base + k < length w → P k → v ≡ g k → ((s : ℕ) → P s → (s ≡ k → ⊥) → f s ≡ g s) → Written d base P g w (set w' (base + k) v)
-overwrite {A} {d} {base} {P} {f} {g} {w} {w'} k v W inside here e rest =
-    record {
-      long = length-set w' (base + k) v ∙ W.long;
-      at = λ s p. at_place s p (ℕ_discrete s k);
-      off = λ i h. get_or-set_other w' (base + k) i v d (λ q. h k here q) ∙ W.off i h;
-    }
-  where
-    at_place : (s : ℕ) → P s → Dec (s ≡ k) → get_or (set w' (base + k) v) (base + s) d ≡ g s
-    at_place s p (yes q) = rw q (get_or-set_same w' (base + k) v d (omega (arith, W.long)) ∙ e)
-    at_place s p (no n) = get_or-set_other w' (base + k) (base + s) v d (λ q. n (omega arith)) ∙ W.at s p ∙ rest s p n
 
 -- A loop that goes by a key of the slots: before the turn k the slots with P whose key is below k are written.
 pub record Upto (P : ℕ → Type 0) (key : ℕ → ℕ) (k s : ℕ) : Type 0 where

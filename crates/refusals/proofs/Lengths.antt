@@ -1,14 +1,10 @@
 -- The test of refusals 5 and 9, passed and not. Assumes nothing.
 use mathlib.Core.Path.{◌≡◌}
 use Prim.Native.Nat.{ℕ}
-use borrow.Author.Tests.{eq-eqb, ne_eqb}
-use Rattle.refusals.specs.Outcome.{Outcome, refused, if_length}
+use borrow.Author.Tests.{eq-eqb}
+use Rattle.refusals.specs.Outcome.{Outcome, if_length}
 
 module _ {A : Type 0} (rest : Outcome A) (number given wanted : ℕ) where
   pub length_passed : given ≡ wanted → if_length number given wanted rest ≡ rest
   unfolding if_length
   length_passed h = rw (eq-eqb given wanted h)
-
-  pub length_refused : (given ≡ wanted → ⊥) → if_length number given wanted rest ≡ refused number given wanted
-  unfolding if_length
-  length_refused h = rw (ne_eqb given wanted h)

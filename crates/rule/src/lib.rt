@@ -50,7 +50,8 @@ fn select<T: Copy>(first: bool, a: T, b: T) -> T
 
 impl Least {
     pub fn new() -> Least
-        ensures { result ≡ started }
+        ensures value { result ≡ started }
+        ensures ordered { Ordered result }
     {
         Least {
             min1: f32::INFINITY,

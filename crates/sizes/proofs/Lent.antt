@@ -74,10 +74,6 @@ known_by c s len m e room =
       shape = S.shape;
     })
 
--- of a valid code's sizes
-pub sizes_known : (v : ValidCode) (s : Sizes) (len : ℕ) → s ≡ sizes_of v.code → work_of v.code ≤ len → Known v.code s len
-sizes_known v s len e room = known_by v.code s len v.made e room
-
 pub known : (l : Lifted) (len : ℕ) → work_of l.code.code ≤ len → Known l.code.code l.sizes len
 known l len room = known_by l.code.code l.sizes len l.code.made l.sized room
 

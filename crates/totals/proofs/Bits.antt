@@ -67,9 +67,6 @@ module _ (m channel : List Float) (z slots : ℕ) (turn edges : List ℕ) (fits 
         done k l (yes e) = rw e (get_or-set_same totals j t nan (omega (arith, D.long)) ∙ is)
         done k l (no e) = get_or-set_other totals j k t nan (λ q. e q) ∙ D.done k (omega arith)
 
-  pub bits_none : (totals w : List Float) → length totals ≡ z → BitsDone 0 totals w w
-  bits_none totals w long = record { long = long; done = λ k l. absurd (omega arith); sent = upto_none }
-
   module _ (j : ℕ) (totals w₀ w : List Float) (all : z ≤ j) (D : BitsDone j totals w₀ w) where
     pub bits_totals : totals ≡ tabulate total z
     bits_totals = tabulated nan total z totals D.long (λ k l. D.done k (omega arith))
