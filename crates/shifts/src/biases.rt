@@ -37,9 +37,10 @@ impl BiasList {
         requires { x < 512 }
         ensures { (result ≡ bias_cost self.now.biases self.now.count x) × (result < 200000) }
     {
+        let weights = weights.from(x);
         let mut sum = 0;
-        for i in 0..self.count {
-            sum += weights.weight(x + usize::from(self.biases[i]));
+        for bias in &self.biases[..self.count] {
+            sum += usize::from(weights[usize::from(*bias)]);
         }
         sum
     }

@@ -23,12 +23,13 @@ impl WeightTable {
         WeightTable { weights }
     }
 
-    // What the d at a place costs.
-    pub fn weight(&self, i: usize) -> usize
+    // What each d from a place on costs.
+    pub fn from(&self, i: usize) -> &[u16]
         requires { i < 2045 }
-        ensures { result ≡ weight i 1022 }
+        ensures long { i + length result.now ≡ 2045 }
+        ensures costs { (k : ℕ) → i + k < 2045 → slice_index result.now k ≡ weight (i + k) 1022 }
     {
-        usize::from(self.weights[i])
+        &self.weights[i..]
     }
 }
 
