@@ -1,5 +1,5 @@
 // The rows of a base graph, and what the parity columns give before any row is chosen, in closed form: the rows that share one, and the
-// edges of a row.
+// edges of a row. They are filled into slices of a length that is asked: by arrays the proof of `Links::new` did not close.
 ghost use Rattle.std.specs.Prelude.{◌≡◌, false, ℕ, ◌*◌, ◌<◌, ◌≤◌, length, get_or};
 ghost use Rattle.growth.specs.Search.{meets, ends, beside, parity_edges};
 

@@ -1,4 +1,5 @@
-// A queue of rows: a fixed array with two ends, and with a place more than there are rows, so that a row can be put behind any end.
+// A queue of rows: a fixed array with two ends, since there is no heap. It has a place more than there are rows, so that a row can be put
+// behind any end.
 ghost use Rattle.std.specs.Prelude.{◌≡◌, ◌+◌, ◌<◌, ◌≤◌, length, set, slice_index, MatchOption};
 
 #[derive(Clone, Copy)]

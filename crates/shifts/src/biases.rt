@@ -5,7 +5,7 @@ ghost use Rattle.shifts.specs.Biases.{bias_cost, Held};
 
 use crate::weights::WeightTable;
 
-// Not `Copy`, as it is large.
+// A fixed array and how many of it count: there is no heap. Not `Copy`, as it is large.
 #[derive(Drop)]
 pub struct BiasList {
     pub biases: [u16; 183],

@@ -17,6 +17,7 @@ pub struct WeightTable {
 }
 
 impl WeightTable {
+    // A fixed array: there is no heap.
     pub fn new() -> WeightTable {
         let mut weights: [u16; 2045] = [0; 2045];
         fill_weights(&mut weights);
