@@ -15,7 +15,8 @@ pub struct Edge {
     pub shift: usize,
 }
 
-// Fossorier's circulant: where offset t goes by a shift.
+// Fossorier's circulant: where offset t goes by a shift. At a lift of 1 nothing turns, and the division is saved. z's bound is asked here,
+// as it is in no type below ldpc.
 pub fn rotated(t: usize, shift: usize, z: usize) -> usize
     requires { (t < z) × (z ≤ 324) × (shift < 512) }
     ensures { result ≡ (t + shift) % z }

@@ -2,12 +2,10 @@
 use mathlib.Core.Path.{◌≡◌, refl}
 use mathlib.Core.Bool.{Bool, true, false, xor}
 use mathlib.Core.List.{List}
-use Prim.Native.Nat.{ℕ, ◌+◌, ◌<◌, ◌≤◌}
+use Prim.Native.Nat.{ℕ, ◌<◌, ◌≤◌}
 use native.Mathlib.Omega.{arith}
 use native.Mathlib.Decide.{dec_lt}
-use lib.ListN.{length, get_or, take, drop, get_or-eq_default}
-use lib.Seq.{get_or-take, get_or-drop}
-use Rattle.std.proofs.lemmas.List.{length-take}
+use lib.ListN.{length, get_or, get_or-eq_default}
 use Rattle.matrix.specs.Encoding.{bit}
 use Rattle.bits.specs.Sums.{differing, Bits}
 
@@ -29,10 +27,3 @@ bits_below l i h = by (dec_lt i (length l))
     by : Dec (i < length l) → get_or l i 0 ≤ 1
     by (yes k) = h i k
     by (no k) = rw (get_or-eq_default l 0 {n = i} (omega arith)) (omega arith)
-
--- parts of a word of bits
-pub bits_before : (n : ℕ) (l : List ℕ) → Bits l → Bits (take n l)
-bits_before n l h i k = rw (get_or-take n l i 0 (omega (arith, length-take n l))) (bits_below l i h)
-
-pub bits_behind : (n : ℕ) (l : List ℕ) → Bits l → Bits (drop n l)
-bits_behind n l h i k = rw (get_or-drop n l i 0) (bits_below l (n + i) h)

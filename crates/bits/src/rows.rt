@@ -7,7 +7,7 @@ ghost use Rattle.bits.specs.Rows.{Holds, Stepped};
 use crate::sums::{add, differ};
 use crate::words::Bits;
 
-// Copies the information to the front of out. A loop, since the archive asks for no memmove.
+// Copies the information to the front of out. A loop, since std's copy is a memmove, which the archive must not ask for.
 pub fn copy_info(info: &[u8], out: &mut [u8])
     requires { length info.now ≤ length out.old }
     ensures { out.new ≡ rewritten 0 (length info.now) (λ i. get_or info.now i 0) out.old }
@@ -27,7 +27,7 @@ pub fn total_of(parity: Bits<'_>, m_b: usize, z: usize, total: &mut [u8])
     }
 }
 
-// p_0: T turned back by one.
+// p_0: T turned back by one. A loop, as in `copy_info`.
 pub fn turn_back(total: &[u8], z: usize, first: &mut [u8])
     requires { (1 ≤ z) × (z ≤ length total.now) × (z ≤ length first.old) }
     ensures { first.new ≡ rewritten 0 z (λ t. get_or total.now ((t + z - 1) % z) 0) first.old }

@@ -28,7 +28,7 @@ pub fn add(sums: &mut [u8], bits: &[u8])
 }
 
 // Adds a column's bits, turned by s, to as many sums as it has offsets: offset t gets bit (t + s) mod z. What the column lacks
-// of z bits is 0.
+// of z bits is 0. That the sums are bits is asked, since a `Bits` cannot be written.
 pub fn add_turned(sums: &mut [u8], column: &[u8], s: usize)
     requires fits { (s < length sums.old) × (length column.now ≤ length sums.old) }
     requires bits { Bits sums.old }

@@ -25,7 +25,9 @@ pub trait Answer: Drop {
 impl Answer for () {
     ghost numbers = { none };
 
-    fn write(self, _answer: &mut [usize; ANSWER]) {}
+    fn write(self, _answer: &mut [usize; ANSWER]) {
+        // nothing to tell
+    }
 }
 
 // A call that counts.
@@ -52,13 +54,17 @@ impl Answer for DecodeResult {
 impl Answer for Code {
     ghost numbers = { none };
 
-    fn write(self, _answer: &mut [usize; ANSWER]) {}
+    fn write(self, _answer: &mut [usize; ANSWER]) {
+        // six numbers elsewhere
+    }
 }
 
 impl Answer for Decode {
     ghost numbers = { none };
 
-    fn write(self, _answer: &mut [usize; ANSWER]) {}
+    fn write(self, _answer: &mut [usize; ANSWER]) {
+        // eight numbers elsewhere
+    }
 }
 
 // Tells what a call gave, or the pair of its refusal, and answers the number.

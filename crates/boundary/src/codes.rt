@@ -24,6 +24,7 @@ pub fn put_rate(c: Code, rate: &mut [f32]) -> Result<(), Refusal>
     c.valid()?;
     let given = rate.len();
     let Some(rate) = rate.as_mut_array() else {
+        // a length, and no number of a refusal
         return Err(Refusal::Output { given, wanted: 1 });
     };
     *rate = [c.effective_rate()];

@@ -7,6 +7,8 @@ use decoder::Decode;
 use ldpc::Code;
 use refusals::Refusal;
 
+// Functions, since neither the records nor slices are of this crate, which may therefore write no `From` or `TryFrom` between them.
+
 // How many numbers a code record has, and a decode record.
 pub const CODE: usize = 6;
 

@@ -27,7 +27,7 @@ fn place_of(rows: &[u8], row: u8) -> Option<usize>
     rows.iter().position(|r| *r == row)
 }
 
-// The shift at a place, 0 where none is placed yet.
+// The shift at a place, 0 where none is placed yet, as the definitions have it.
 pub fn shift_at(shifts: &[u16], i: usize) -> usize
     ensures { (result ≡ get_or shifts.now i 0) × (result < 65536) }
 {

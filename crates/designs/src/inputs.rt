@@ -49,7 +49,7 @@ impl Computed {
         row as u8
     }
 
-    // The shift at place p, which fits in the same way.
+    // The shift at place p. It is below 65536, so `as` keeps it whole in the same way.
     #[tactic(auto, using(crate::proofs::Drawn::square), unfolding(crate::specs::Inputs::shift_at))]
     fn shift_at(self, p: usize) -> u16
         requires { p < 183 }
@@ -58,7 +58,8 @@ impl Computed {
         ((self.seed * 7919 + p * p * 31 + p * 104729) % 65536) as u16
     }
 
-    // Fills the columns. By index, since two slices are written: of what is written through a zip nothing is known.
+    // Fills the columns: two slices, as the calls of graph are lent them. By index, since of what is written through a zip nothing is
+    // known.
     pub fn fill_columns(self, rows: &mut [u8], shifts: &mut [u16])
         requires { (length rows.old ≤ 183) × (length shifts.old ≡ length rows.old) }
         ensures rows_after { rows.new ≡ tabulate (row_at self.m_b self.seed) (length rows.old) }

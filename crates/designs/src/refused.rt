@@ -1,7 +1,6 @@
 // Calls that are refused, with the lengths that they are lent, and the refusal.
 use anyhow::Result;
-use refusals::Refusal;
-use std::fmt;
+use readings::Answer;
 
 // The rows of two columns of a graph with three base rows; the last is repeated.
 const ROWS: [u8; 7] = [0, 1, 2, 1, 2, 1, 0];
@@ -14,19 +13,6 @@ const GROWTHS: [(usize, usize, usize); 4] = [(3, 1, 3), (5, 0, 3), (5, 3, 6), (5
 
 // The percent, and the lengths of the rows and the shifts.
 const BUILDS: [(usize, usize, usize); 3] = [(101, 0, 0), (50, 7, 7), (50, 6, 7)];
-
-// What a call answers, or the refusal.
-#[derive(Clone, Copy)]
-struct Answer<T>(Result<T, Refusal>);
-
-impl<T: fmt::Display> fmt::Display for Answer<T> {
-    fn fmt<W: fmt::Write>(&self, f: &mut fmt::Formatter<W>) -> fmt::Result {
-        match &self.0 {
-            Ok(x) => write!(f, "{x}"),
-            Err(refusal) => write!(f, "{refusal}"),
-        }
-    }
-}
 
 fn print_columns(rt: &impl Print) -> Result<()> {
     for (n_b, percent) in COLUMNS {

@@ -1,6 +1,7 @@
 // The C boundary of graph design, as include/fuyegbo.h declares it: information columns, growth, shifts, whole designs and their
 // four-cycles. Every function tests the answer's size first, then calls the library. Assumes of its callers what the header asks:
-// slices that hold as many elements as they say, and that do not overlap.
+// slices that hold as many elements as they say, and that do not overlap: rows and shifts are two of them, since C has no struct of
+// slices.
 #![tactic(auto)]
 
 mod assign_shifts;

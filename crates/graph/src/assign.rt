@@ -6,7 +6,7 @@ ghost use Rattle.graph.specs.Calls.{shifts_told, shifts_written};
 use crate::tests::{shaped, sound};
 use refusals::Refusal;
 
-// Writes shifts for the rows of k_b information columns.
+// Writes shifts for the rows of k_b information columns. Rows and shifts are two slices, as C lends them.
 #[tactic(auto, unfolding(crate::specs::Calls::shifts_told, crate::specs::Calls::shifts_written))]
 pub fn assign_shifts(
     n_b: usize,

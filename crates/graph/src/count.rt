@@ -7,7 +7,7 @@ use crate::tests::{lifted, sound};
 use columns::Columns;
 use refusals::Refusal;
 
-// The four-cycles among k_b information columns at lift z.
+// The four-cycles among k_b information columns at lift z. Rows and shifts are two slices, as C lends them.
 #[tactic(auto, unfolding(crate::specs::Calls::cycles_told))]
 pub fn four_cycles(
     n_b: usize,

@@ -7,7 +7,7 @@ use crate::rate::columns_at;
 use crate::tests::rated;
 use refusals::Refusal;
 
-// Writes the rows and the shifts of a graph of n_b base columns at a rate in percent.
+// Writes the rows and the shifts of a graph of n_b base columns at a rate in percent. They are two slices, as C lends them.
 #[tactic(auto, unfolding(crate::specs::Calls::build_told, crate::specs::Calls::rows_built, crate::specs::Calls::shifts_built, crate::specs::Calls::built_rows, crate::specs::Calls::built_shifts))]
 pub fn build(
     n_b: usize,

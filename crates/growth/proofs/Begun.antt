@@ -24,7 +24,7 @@ pub column_at : (rows : List ℕ) (p n : ℕ) → p ≤ length rows → n < p % 
     → get_or (take (p - 3 * (p / 3)) (drop (3 * (p / 3)) rows)) n 0 ≡ get_or rows (3 * (p / 3) + n) 0
 column_at rows p n h l = let a : 3 * (p / 3) + n < p = omega arith in grind (arith, common_steps)
 
-pub begun_first : {rows depth queue : List ℕ} {p : ℕ} → length depth ≡ 64 → length queue ≡ 64 → Begun rows p 0 depth depth queue
+pub begun_first : {rows depth queue : List ℕ} {p : ℕ} → length depth ≡ 64 → length queue ≡ 65 → Begun rows p 0 depth depth queue
 unfolding some
 begun_first d q = record { deep = d; long = q; at = λ r. refl; front = λ j h. absurd (omega arith) }
 

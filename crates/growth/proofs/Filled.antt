@@ -1,4 +1,4 @@
--- The tests of which rows share a column, filled in place by place, and one pair more. Assumes nothing.
+-- The tests of which rows share a column, with one pair more. Assumes nothing.
 use mathlib.Core.Path.{◌≡◌, refl, sym, ap, ◌∙◌}
 use mathlib.Core.Bool.{Bool, true, false, ◌&&◌, ◌||◌, or-false, or-true, or_assoc}
 use mathlib.Core.List.{List}
@@ -13,22 +13,6 @@ use borrow.Author.Tests.{eq-eqb, ne_eqb}
 use Rattle.laws.specs.Range.{some}
 use Rattle.std.proofs.lemmas.Bool.{and_right}
 use Rattle.growth.specs.Search.{meets, paired, joined}
-
--- a list that holds f at each place below i
-pub record Front {A : Type 0} (d : A) (f : ℕ → A) (n i : ℕ) (l : List A) : Type 0 where
-  pub long : length l ≡ n
-  pub at : (k : ℕ) → k < i → get_or l k d ≡ f k
-
-module _ {A : Type 0} {d : A} {f : ℕ → A} {n : ℕ} where
-  pub front_first : {l : List A} → length l ≡ n → Front d f n 0 l
-  front_first e = record { long = e; at = λ k h. absurd (omega arith) }
-
-  pub front_next : {i : ℕ} {l : List A} → Front d f n i l → i < n → (v : A) → v ≡ f i → Front d f n (i + 1) (set l i v)
-  front_next {i} {l} F h v e = record { long = length-set l i v ∙ F.long; at = λ k l. at k l (ℕ_discrete k i) }
-    where
-      at : (k : ℕ) → k < i + 1 → Dec (k ≡ i) → get_or (set l i v) k d ≡ f k
-      at k b (yes q) = rw q (get_or-set_same l i v d (omega (arith, F.long)) ∙ e)
-      at k b (no q) = get_or-set_other l i k v d q ∙ F.at k (omega arith)
 
 -- one test more is true
 set_meets : (l : List Bool) → length l ≡ 4096 → (a b q s : ℕ) → a < 64 → b < 64 → s < 64

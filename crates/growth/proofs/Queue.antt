@@ -5,10 +5,12 @@ use mathlib.Core.Bool.{Bool, true, false, cond, ◌&&◌}
 use mathlib.Core.List.{List}
 use Prim.Native.Nat.{ℕ, ◌+◌, ◌<◌, ◌≤◌}
 use native.Mathlib.Omega.{arith}
+use native.Mathlib.Nat.{add-zero}
 use native.Mathlib.Decide.{ℕ_discrete, dec_lt}
 use lib.Dec.{ltb, eqb}
 use lib.ListN.{length, get_or, set, length-set}
 use lib.Seq.{get_or-set_same, get_or-set_other}
+use Rattle.std.proofs.lemmas.List.{set-get_or}
 use borrow.Author.Tests.{lt-ltb, le-ltb, ne_eqb, eqb-true}
 use Rattle.laws.specs.Range.{count}
 use Rattle.laws.proofs.Collect.{count_most}
@@ -45,6 +47,24 @@ module _ {m : ℕ} {depth queue : List ℕ} {head tail : ℕ} (Q : Queue m depth
         close = λ l j k. omega (arith, Q.close h j k, Q.rises head (head + 1) (omega arith) l);
         has = Q.has;
       }
+
+  -- what stands behind the end does not count
+  pub queue_behind : (r : ℕ) → Queue m depth (set queue tail r) head tail
+  queue_behind r =
+      record {
+        deep = Q.deep;
+        long = length-set queue tail r ∙ Q.long;
+        most = Q.most;
+        all = Q.all;
+        row = λ j h. rw (same j h) (Q.row j h);
+        early = λ j h. rw (same j h) (Q.early j h);
+        rises = λ i j l h. rw (same i (omega arith), same j h) (Q.rises i j l h);
+        close = λ l j h. rw (same j h, same head l) (Q.close l j h);
+        has = λ s h l. let L = Q.has s h l in record { index = L.index; inside = L.inside; holds = same L.index L.inside ∙ L.holds };
+      }
+    where
+      same : (j : ℕ) → j < tail → get_or (set queue tail r) j 0 ≡ get_or queue j 0
+      same j h = get_or-set_other queue tail j r 0 (λ e. omega arith)
 
   -- row r is reached from the row at the head
   module _ (fits : m ≤ 64) (r v : ℕ) (here : r < m) (free : get_or depth r 0 ≡ m) (waits : head < tail)
@@ -155,6 +175,10 @@ module _ {m : ℕ} {near : List Bool} {q x : ℕ} {depth queue depth' queue' : L
           rw (e, and_right (ltb x (x + 1)) (meets near q x && eqb (get_or depth x 0) m) (rw (spread_here h) at f)) (spread_here h)
       at r l (no e) = rw (further r e) (S.at r l)
 
+  pub spread_behind : (r : ℕ) → Spread m near q x depth queue tail depth' (set queue' tail' r) tail'
+  spread_behind r =
+      record { at = S.at; grows = S.grows; kept = λ j l. get_or-set_other queue' tail' j r 0 (λ w. omega (arith, S.grows)) ∙ S.kept j l }
+
   pub spread_take : length depth' ≡ 64 → m ≤ 64 → x < m → (meets near q x && eqb (get_or depth' x 0) m) ≡ true → (v : ℕ)
       → v ≡ get_or depth q 0 + 1 → Spread m near q (x + 1) depth queue tail (set depth' x v) (set queue' tail' x) (tail' + 1)
   spread_take long fits h t v e =
@@ -191,16 +215,12 @@ module _ {m : ℕ} {near : List Bool} {head end : ℕ} {depth₀ queue₀ : List
       }
 
   module _ {x : ℕ} {depth queue : List ℕ} {tail : ℕ} (G : Spreading m near head end depth₀ queue₀ x depth queue tail) (h : x < m) where
-    pub spreading_skip : (meets near (get_or queue₀ head 0) x && eqb (get_or depth x 0) m) ≡ false
-        → Spreading m near head end depth₀ queue₀ (x + 1) depth queue tail
-    spreading_skip f = record { turn = omega arith; queued = G.queued; spread = spread_skip G.spread h f }
+    spreading_skip : (meets near (get_or queue₀ head 0) x && eqb (get_or depth x 0) m) ≡ false
+        → Spreading m near head end depth₀ queue₀ (x + 1) depth (set queue tail x) tail
+    spreading_skip f =
+        record { turn = omega arith; queued = queue_behind G.queued x; spread = spread_behind (spread_skip G.spread h f) x }
 
-    pub spreading_room : (meets near (get_or queue₀ head 0) x && eqb (get_or depth x 0) m) ≡ true → tail < m
-    spreading_room t =
-        let b = and_parts (meets near (get_or queue₀ head 0) x) (eqb (get_or depth x 0) m) t in
-        room G.queued x h (omega (arith, eqb-true (get_or depth x 0) m b.1))
-
-    pub spreading_take : m ≤ 64 → head < end → (meets near (get_or queue₀ head 0) x && eqb (get_or depth x 0) m) ≡ true → (v : ℕ)
+    spreading_take : m ≤ 64 → head < end → (meets near (get_or queue₀ head 0) x && eqb (get_or depth x 0) m) ≡ true → (v : ℕ)
         → v ≡ get_or depth₀ (get_or queue₀ head 0) 0 + 1
         → Spreading m near head end depth₀ queue₀ (x + 1) (set depth x v) (set queue tail x) (tail + 1)
     spreading_take fits waits t v e =
@@ -213,3 +233,9 @@ module _ {m : ℕ} {near : List Bool} {head end : ℕ} {depth₀ queue₀ : List
               push G.queued fits x v h (eqb-true (get_or depth x 0) m b.1) (omega (arith, G.spread.grows)) (rw (k, d) e);
           spread = spread_take G.spread G.queued.deep fits h t v e;
         }
+
+    pub spreading_turn : m ≤ 64 → head < end → (t : Bool) → t ≡ (meets near (get_or queue₀ head 0) x && eqb (get_or depth x 0) m) → (v : ℕ)
+        → v ≡ get_or depth₀ (get_or queue₀ head 0) 0 + 1
+        → Spreading m near head end depth₀ queue₀ (x + 1) (set depth x (cond t v (get_or depth x 0))) (set queue tail x) (tail + cond t 1 0)
+    spreading_turn fits waits true t v e = spreading_take fits waits (sym t) v e
+    spreading_turn fits waits false t v e = rw (set-get_or depth x 0, add-zero) (spreading_skip (sym t))

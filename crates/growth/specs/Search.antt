@@ -41,7 +41,7 @@ pub record Listed (queue : List ℕ) (tail r : ℕ) : Type 0 where
 -- wait, and are at most one step apart.
 pub record Queue (m : ℕ) (depth queue : List ℕ) (head tail : ℕ) : Type 0 where
   pub deep : length depth ≡ 64
-  pub long : length queue ≡ 64
+  pub long : length queue ≡ 65
   pub most : (r : ℕ) → r < m → get_or depth r 0 ≤ m
   pub all : tail ≡ count (λ r. ltb (get_or depth r 0) m) m
   pub row : (j : ℕ) → j < tail → get_or queue j 0 < m
@@ -61,7 +61,7 @@ pub record Spread (m : ℕ) (near : List Bool) (q x : ℕ) (depth queue : List �
 -- depth' is depth with 0 at the first n rows of place p's column, which stand in front of queue'
 pub record Begun (rows : List ℕ) (p n : ℕ) (depth depth' queue' : List ℕ) : Type 0 where
   pub deep : length depth' ≡ 64
-  pub long : length queue' ≡ 64
+  pub long : length queue' ≡ 65
   pub at : (r : ℕ) → get_or depth' r 0 ≡ cond (some (λ e. eqb (get_or rows (3 * (p / 3) + e) 0) r) n) 0 (get_or depth r 0)
   pub front : (j : ℕ) → j < n → get_or queue' j 0 ≡ get_or rows (3 * (p / 3) + j) 0
 

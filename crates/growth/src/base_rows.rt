@@ -1,6 +1,6 @@
 // The rows of a base graph, and what the parity columns give before any row is chosen, in closed form: the rows that share one, and the
-// edges of a row.
-ghost use Rattle.std.specs.Prelude.{◌≡◌, ℕ, ◌<◌, ◌≤◌, length, get_or};
+// edges of a row. They are filled into slices of a length that is asked: by arrays the proof of `Links::new` did not close.
+ghost use Rattle.std.specs.Prelude.{◌≡◌, false, ℕ, ◌*◌, ◌<◌, ◌≤◌, length, get_or};
 ghost use Rattle.growth.specs.Search.{meets, ends, beside, parity_edges};
 
 #[derive(Clone, Copy)]
@@ -27,13 +27,24 @@ impl BaseRows {
         q == r || q + 1 == r || r + 1 == q || self.is_end(q) && self.is_end(r)
     }
 
+    // Fills in which rows share a parity column with row q.
+    fn fill_row(&self, q: usize, near: &mut [bool])
+        requires { (q < self.now.m_b) × (length near.old ≡ 4096) }
+        ensures row { (r : ℕ) → r < self.now.m_b → meets near.new q r ≡ beside self.now.m_b q r }
+        ensures before { (i : ℕ) → i < 64 * q → get_or near.new i false ≡ get_or near.old i false }
+    {
+        for r in 0..self.m_b {
+            near[64 * q + r] = self.are_beside(q, r);
+        }
+    }
+
     // Fills in which rows share a parity column.
     pub fn fill_near(&self, near: &mut [bool])
         requires { length near.old ≡ 4096 }
-        ensures { (q r : ℕ) → q < self.now.m_b → r < 64 → meets near.new q r ≡ beside self.now.m_b q r }
+        ensures { (q r : ℕ) → q < self.now.m_b → r < self.now.m_b → meets near.new q r ≡ beside self.now.m_b q r }
     {
-        for i in 0..64 * self.m_b {
-            near[i] = self.are_beside(i / 64, i % 64);
+        for q in 0..self.m_b {
+            self.fill_row(q, near);
         }
     }
 

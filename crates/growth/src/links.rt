@@ -22,7 +22,7 @@ impl Links {
     // Of the parity columns alone.
     pub fn new(base: BaseRows) -> Links
         ensures rows { result.base.m_b ≡ base.m_b }
-        ensures shared { (q r : ℕ) → q < base.m_b → r < 64 → meets result.shared.near q r ≡ beside base.m_b q r }
+        ensures shared { (q r : ℕ) → q < base.m_b → r < base.m_b → meets result.shared.near q r ≡ beside base.m_b q r }
         ensures edges { (r : ℕ) → r < base.m_b → get_or result.degree r 0 ≡ parity_edges base.m_b r }
     {
         let mut links = Links {

@@ -1,13 +1,14 @@
-// A queue of rows: a fixed array with two ends.
+// A queue of rows: a fixed array with two ends, since there is no heap. It has a place more than there are rows, so that a row can be put
+// behind any end.
 ghost use Rattle.std.specs.Prelude.{◌≡◌, ◌+◌, ◌<◌, ◌≤◌, length, set, slice_index, MatchOption};
 
 #[derive(Clone, Copy)]
 pub struct RowQueue {
-    pub rows: [u8; 64],
+    pub rows: [u8; 65],
     pub head: usize,
     pub tail: usize,
     pub ghost ends: { (head ≤ tail) × (tail ≤ 64) },
-    pub ghost long: { length rows ≡ 64 },
+    pub ghost long: { length rows ≡ 65 },
 }
 
 impl RowQueue {
@@ -15,7 +16,7 @@ impl RowQueue {
         ensures { (result.head ≡ 0) × (result.tail ≡ 0) }
     {
         RowQueue {
-            rows: [0; 64],
+            rows: [0; 65],
             head: 0,
             tail: 0,
         }
@@ -32,7 +33,7 @@ impl RowQueue {
     // The two halves of a push: a row behind the end, at a place of its own, and the end moved past such rows. A search that counts the
     // end by itself in between is faster.
     pub fn put(&mut self, at: usize, row: u8)
-        requires { at < 64 }
+        requires { at ≤ 64 }
         ensures { (self.new.rows ≡ set self.old.rows at row) × (self.new.head ≡ self.old.head) × (self.new.tail ≡ self.old.tail) }
     {
         self.rows[at] = row;

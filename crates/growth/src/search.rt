@@ -1,5 +1,5 @@
 // A breadth-first search over the rows: the fewest steps that lead from a column's rows so far to each row.
-ghost use Rattle.std.specs.Prelude.{◌≡◌, ◌&&◌, ℕ, ◌+◌, ◌-◌, ◌%◌, ◌<◌, ◌≤◌, eqb, length, get_or, replicate};
+ghost use Rattle.std.specs.Prelude.{◌≡◌, cond, ◌&&◌, ℕ, ◌+◌, ◌-◌, ◌%◌, ◌<◌, ◌≤◌, eqb, length, get_or, set, replicate};
 ghost use Rattle.growth.specs.Growth.{steps};
 ghost use Rattle.growth.specs.Search.{meets, Queue, Spread, Begun};
 
@@ -20,6 +20,7 @@ impl Search {
     pub fn new(base: BaseRows) -> Search
         ensures { (result.base.m_b ≡ base.m_b) × (result.depth ≡ replicate 64 base.m_b) × (result.queue.head ≡ 0) × (result.queue.tail ≡ 0) }
     {
+        // at most 64, so the cast loses nothing
         Search {
             base,
             depth: [base.m_b as u8; 64],
@@ -48,6 +49,22 @@ impl Search {
         shared.meets(q, r) && usize::from(self.depth[r]) == self.base.m_b
     }
 
+    // Puts row r behind the queue's end, and answers the end: it moves past r where r is reached, and r is then at the depth `next`. A
+    // branch in its place would be guessed wrong at each row that is reached, and growth would take half as long again.
+    fn reach(&mut self, r: usize, reached: bool, next: u8, tail: usize) -> usize
+        requires { (r < 64) × (tail ≤ 64) }
+        ensures depth { self.new.depth ≡ set self.old.depth r (cond reached next (get_or self.old.depth r 0)) }
+        ensures queue { (self.new.base.m_b ≡ self.old.base.m_b) × (self.new.queue.rows ≡ set self.old.queue.rows tail r)
+            × (self.new.queue.head ≡ self.old.queue.head) × (self.new.queue.tail ≡ self.old.queue.tail) }
+        ensures end { result ≡ tail + cond reached 1 0 }
+    {
+        let depth = self.depth[r];
+        // below 64, so the cast loses nothing
+        self.queue.put(tail, r as u8);
+        self.depth[r] = if reached { next } else { depth };
+        tail + usize::from(reached)
+    }
+
     // Reaches the open rows from row q, the last to leave the queue.
     fn spread(&mut self, shared: &Shared, q: usize)
         requires left { (1 ≤ self.old.queue.head) × (self.old.queue.head ≤ self.old.queue.tail) × (q ≡ get_or self.old.queue.rows (self.old.queue.head - 1) 0) }
@@ -59,11 +76,8 @@ impl Search {
         let next = self.depth[q] + 1;
         let mut tail = self.queue.tail;
         for r in 0..self.base.m_b {
-            if self.is_open(shared, q, r) {
-                self.depth[r] = next;
-                self.queue.put(tail, r as u8);
-                tail += 1;
-            }
+            let reached = self.is_open(shared, q, r);
+            tail = self.reach(r, reached, next, tail);
         }
         self.queue.end_at(tail);
     }
@@ -77,7 +91,7 @@ impl Search {
             → get_or self.new.depth r 0
             ≡ steps self.old.base.m_b (meets shared.now.near) (λ q. eqb (get_or self.old.depth q 0) 0) r }
     {
-        // A `while`: the queue grows as it is worked off, so there is no range and no list to go over.
+        // A `while let`: the queue grows as it is worked off, so there is no range and no list to go over.
         while let Some(q) = self.queue.pop() {
             self.spread(shared, usize::from(q));
             if self.queue.tail == self.base.m_b {

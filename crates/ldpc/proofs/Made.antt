@@ -1,5 +1,5 @@
 -- The codes that Choice gives: what a record that passes refusal 11's test is, and its sizes. Assumes nothing.
-use Rattle.std.specs.Prelude.{Ok, Err}
+use Rattle.std.specs.Prelude.{Option, Some, None, Ok, Err}
 use mathlib.Core.Path.{◌≡◌, refl, sym, ap, ◌∙◌, subst}
 use mathlib.Core.Bool.{Bool, true, false, cond, ◌&&◌}
 use mathlib.Core.List.{[], ◌∷◌}
@@ -19,7 +19,7 @@ use Rattle.tables.proofs.Sizes.{Shaped, shaped}
 use Rattle.matrix.specs.Edges.{edges}
 use Rattle.ldpc.specs.declared.choice.Code.{Code}
 use Rattle.ldpc.specs.Code.{code_graph, checks_of}
-use Rattle.ldpc.specs.Choice.{lift_of, serves, code_of, tried_from, chosen, same_code, is_given, made}
+use Rattle.ldpc.specs.Choice.{lift_of, serves, code_of, given_else, family_code, tried_from, chosen, same_code, is_given, made}
 use Rattle.ldpc.proofs.Lift.{lift_pos, lift_covers, lift_most}
 use Rattle.ldpc.proofs.Chosen.{chosen_long, chosen_short}
 
@@ -63,8 +63,14 @@ module _ (rate n : ℕ) where
   unfolding code_of S
   taken f h l p k = record { is = refl; short = h; family_lt = l; serving = p; earlier = k }
 
+  -- what the three families give in turn, where a, b and d say whether each serves
+  abbrev tried_by : Outcome Code → Bool → Bool → Bool → Outcome Code
+  tried_by none a b d =
+      let code : Bool → ℕ → Option Code = λ s f. cond s (Some (code_of (min rate 5) f n)) None in
+      given_else (given_else (given_else none (code d 2)) (code b 1)) (code a 0)
+
   from_tried : n ≤ 19440 → (c : Code) (a b d : Bool) → S 0 ≡ a → S 1 ≡ b → S 2 ≡ d
-      → cond a (Ok (code_of (min rate 5) 0 n)) (cond b (Ok (code_of (min rate 5) 1 n)) (cond d (Ok (code_of (min rate 5) 2 n)) (refused 1 1 n)))
+      → tried_by (refused 1 1 n) a b d
       ≡ Ok c → Chosen rate n c
   from_tried h c true b d p q r e =
       let k : code_of (min rate 5) 0 n ≡ c = cc in subst (Chosen rate n) k (taken 0 h (omega arith) p none)
@@ -76,7 +82,7 @@ module _ (rate n : ℕ) where
 
   -- what Choice gives is chosen by the rule
   pub chosen_rule : (c : Code) → chosen rate n ≡ Ok c → Chosen rate n c
-  unfolding S tried_from
+  unfolding S tried_from family_code
   chosen_rule c e = by (dec_lt 19440 n)
     where
       by : Dec (19440 < n) → Chosen rate n c
@@ -84,7 +90,7 @@ module _ (rate n : ℕ) where
       by (no h) = from_tried (omega arith) c (S 0) (S 1) (S 2) refl refl refl (sym (chosen_short rate n (omega arith)) ∙ e)
 
   decided_by : (a b d : Bool) → S 0 ≡ a → S 1 ≡ b → S 2 ≡ d
-      → Given (cond a (Ok (code_of (min rate 5) 0 n)) (cond b (Ok (code_of (min rate 5) 1 n)) (cond d (Ok (code_of (min rate 5) 2 n)) (refused 1 1 n))))
+      → Given (tried_by (refused 1 1 n) a b d)
       ⊎ ((f : ℕ) → f < 3 → S f ≡ false)
   decided_by true b d p q r = inl (record { code = code_of (min rate 5) 0 n; gives = refl })
   decided_by false true d p q r = inl (record { code = code_of (min rate 5) 1 n; gives = refl })
@@ -99,7 +105,7 @@ module _ (rate n : ℕ) where
 
   -- a code is given, or no family serves: a family that serves is never passed over
   pub decided : n ≤ 19440 → Given (chosen rate n) ⊎ ((f : ℕ) → f < 3 → serves (shape_of (graph_number (min rate 5) f)) n ≡ false)
-  unfolding S tried_from
+  unfolding S tried_from family_code
   decided h = rw (chosen_short rate n h) (decided_by (S 0) (S 1) (S 2) refl refl refl)
 
 -- two records that the test holds for the same are the same

@@ -30,9 +30,13 @@ code_of rate family n =
 unfoldable pub family_code : ℕ → ℕ → ℕ → Option Code
 family_code rate family n = cond (serves (shape_of (graph_number rate family)) n) (Some (code_of rate family n)) None
 
+abbrev pub given_else : Outcome Code → Option Code → Outcome Code
+given_else rest None = rest
+given_else rest (Some c) = Ok c
+
 -- a family's code where it serves, else what the families after it give
 unfoldable pub tried_from : ℕ → ℕ → ℕ → Outcome Code → Outcome Code
-tried_from rate family n rest = cond (serves (shape_of (graph_number rate family)) n) (Ok (code_of rate family n)) rest
+tried_from rate family n rest = given_else rest (family_code rate family n)
 
 -- what Choice gives: a rate above 5 counts as 5; large, small, tiny; refusal 2, then 1
 unfoldable pub chosen : ℕ → ℕ → Outcome Code

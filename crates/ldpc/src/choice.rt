@@ -37,7 +37,7 @@ impl Code {
 
     pub const CERTAIN: f32 = 1000000.0;
 
-    // The code of one family, where it serves.
+    // The code of one family, where it serves. The family is a number, as in the record.
     #[tactic(auto, unfolding(crate::specs::Choice::family_code, crate::specs::Choice::serves, crate::specs::Choice::code_of))]
     fn of_family(rate: usize, family: usize, n_tx: usize) -> Option<Code>
         requires { n_tx ≤ 19440 }

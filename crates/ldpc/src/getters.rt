@@ -60,6 +60,7 @@ impl Code {
         let Ok(v) = self.valid() else {
             return 0.0;
         };
+        // at most 19440, so the casts lose nothing
         let k = v.code.k as u16;
         let n = v.code.n_tx as u16;
         f32::from(k) / f32::from(n)

@@ -5,7 +5,7 @@ ghost use Rattle.shifts.specs.Biases.{bias_cost, Held};
 
 use crate::weights::WeightTable;
 
-// Not `Copy`, as it is large.
+// A fixed array and how many of it count: there is no heap. Not `Copy`, as it is large.
 #[derive(Drop)]
 pub struct BiasList {
     pub biases: [u16; 183],
@@ -37,9 +37,10 @@ impl BiasList {
         requires { x < 512 }
         ensures { (result ≡ bias_cost self.now.biases self.now.count x) × (result < 200000) }
     {
+        let weights = weights.from(x);
         let mut sum = 0;
-        for i in 0..self.count {
-            sum += weights.weight(x + usize::from(self.biases[i]));
+        for bias in &self.biases[..self.count] {
+            sum += usize::from(weights[usize::from(*bias)]);
         }
         sum
     }

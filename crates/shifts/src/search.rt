@@ -18,7 +18,7 @@ pub fn search(weights: &WeightTable, biases: &BiasList, from: u64) -> (u16, u64)
     let mut state = from;
     let mut best = WORST;
     let mut shift = 0;
-    'draws: for _ in 0..256u16 {
+    'draws: for _ in 0..256usize {
         state = next_state(state);
         let x = draw_of(state);
         let p = biases.penalty(weights, usize::from(x));

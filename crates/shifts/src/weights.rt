@@ -17,18 +17,20 @@ pub struct WeightTable {
 }
 
 impl WeightTable {
+    // A fixed array: there is no heap.
     pub fn new() -> WeightTable {
         let mut weights: [u16; 2045] = [0; 2045];
         fill_weights(&mut weights);
         WeightTable { weights }
     }
 
-    // What the d at a place costs.
-    pub fn weight(&self, i: usize) -> usize
+    // What each d from a place on costs.
+    pub fn from(&self, i: usize) -> &[u16]
         requires { i < 2045 }
-        ensures { result ≡ weight i 1022 }
+        ensures long { i + length result.now ≡ 2045 }
+        ensures costs { (k : ℕ) → i + k < 2045 → slice_index result.now k ≡ weight (i + k) 1022 }
     {
-        usize::from(self.weights[i])
+        &self.weights[i..]
     }
 }
 

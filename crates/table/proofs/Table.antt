@@ -22,7 +22,7 @@ use Rattle.matrix.specs.Encoding.{info_sum, total_sum, first_parity, parity_bit,
 use Rattle.rule.specs.Rule.{started, taken, answered}
 use Rattle.messages.specs.Memory.{bits_of, slots_of, to_checks_at, to_bits_at}
 use Rattle.messages.specs.Iteration.{gathered, answer, to_bit, check_pass, added, total, total_pass, send_pass, iteration, decision, settled}
-use Rattle.ldpc.specs.Choice.{lift_of, serves, code_of, tried_from, chosen}
+use Rattle.ldpc.specs.Choice.{lift_of, serves, code_of, family_code, tried_from, chosen}
 use Rattle.ldpc.specs.Code.{code_graph, info_end}
 use Rattle.coder.specs.Calls.{encoding_of, unsatisfied_of}
 use Rattle.channel.specs.Channel.{channel_of, start_memory}
@@ -39,7 +39,7 @@ unfolding xor lt add mul sum xor_sum count collect folded information_columns ta
     row_sum check_sum unmet is_sent place_of lifted info_sum total_sum first_parity parity_bit encoding
     started taken answered bits_of slots_of to_checks_at to_bits_at
     gathered answer to_bit check_pass added total total_pass send_pass iteration decision settled
-    lift_of serves code_of tried_from chosen code_graph info_end encoding_of unsatisfied_of
+    lift_of serves code_of family_code tried_from chosen code_graph info_end encoding_of unsatisfied_of
     channel_of start_memory iterated unbroken result_of word_of
     among readings table same_word is_refused meets has_sizes same_result reads_as holds all_hold
 table_holds w = tt

@@ -24,7 +24,7 @@ pub data Row : Type 0 where
   -- the unbroken decode at a limit: what Read tells, its word, and how many checks the word does not meet
   decodes : (rate n : ℕ) (rx : List Float) (limit : ℕ) (result : DecodeResult) (word : List ℕ) (unsatisfied : ℕ) → Row
 
--- ---- the table
+-- ---- the rows
 unfoldable pub among : ℕ → List ℕ → Bool
 among i [] = false
 among i (j ∷ l) = eqb i j || among i l
@@ -33,7 +33,7 @@ among i (j ∷ l) = eqb i j || among i l
 unfoldable pub readings : ℕ → ℕ → ℤ → List ℕ → List Float
 readings n m e places = tabulate (λ i. fin (among i places) m e) n
 
--- its starred rows, in its order (100,000,000 is 390625 × 2 ^ 8)
+-- the starred rows of the commissioning table, in the order of that table (100,000,000 is 390625 × 2 ^ 8)
 unfoldable pub table : List Row
 table =
     refuses 0 3 1 1 3 ∷

@@ -1,8 +1,7 @@
--- `fill_near` meets its contract. The invariant: the tests before i are filled in. Assumes nothing.
-use Rattle.std.proofs.Common.{false, ◌/◌, ◌%◌}
-use Rattle.growth.specs.Search.{beside}
-use Rattle.growth.proofs.Filled.{Front}
+-- `fill_near` meets its contract. The invariant: the rows before q are filled in. Assumes nothing.
+use Rattle.std.proofs.Common.{◌≡◌, ◌<◌, ℕ}
+use Rattle.growth.specs.Search.{meets, beside}
 use Rattle.growth.proofs.base_rows.BaseRows.fill_near.Given as goal
 
-abbrev pub invariant-loop-i : goal.invariant-loop-i
-invariant-loop-i l = Front false (λ j. beside l.self.m_b (j / 64) (j % 64)) 4096 l.i l.near
+abbrev pub invariant-loop-q : goal.invariant-loop-q
+invariant-loop-q l = (k r : ℕ) → k < l.q → r < l.self.m_b → meets l.near k r ≡ beside l.self.m_b k r

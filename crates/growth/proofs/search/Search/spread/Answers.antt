@@ -1,40 +1,27 @@
 -- `spread` meets its contract. The invariant: the open rows below r are reached. Assumes nothing.
-use Rattle.std.proofs.Common.{◌≡◌, ◌+◌, ◌-◌, ◌<◌, get_or, refl, sym, ap, ◌∙◌, arith}
-use Rattle.growth.proofs.Queue.{tail_most, spreading_first, spreading_skip, spreading_take, spreading_room}
+use Rattle.std.proofs.Common.{◌≡◌, ◌+◌, ◌-◌, ◌<◌, get_or, refl, ap, ◌∙◌, arith}
+use Rattle.growth.proofs.Queue.{tail_most, spreading_first, spreading_turn}
 use Rattle.growth.proofs.search.Search.spread.Goals as goal
-use Rattle.growth.proofs.search.Search.spread.Goals.{else-is_open, then-is_open}
 
 pub loop-r-init : goal.loop-r-init
 loop-r-init c = (spreading_first c.requires.queued, refl, refl, refl)
 
-pub put-requires : goal.put-requires
-put-requires c =
-    let I = c.loop-r.invariant in
-    let tested = rw (c.requires.left.2, I.1) at c.is_open.ensures in
-    let room = spreading_room c.requires.queued I.0 c.loop-r-test.true (sym tested ∙ c.if-is_open.true) in
-    omega (arith, room, c.args.self.now.base.sizes)
-
-pub overflow_add-tail : goal.overflow_add-tail
-overflow_add-tail c = omega (arith, tail_most c.loop-r.invariant.0.queued, c.args.self.now.base.sizes)
+pub reach-tail-requires : goal.reach-tail-requires
+reach-tail-requires c = omega (arith, tail_most c.loop-r.invariant.0.queued, c.args.self.now.base.sizes)
 
 pub loop-r-preserved : goal.loop-r-preserved
 loop-r-preserved c =
     let of = c.args.self.now in
     let I = c.loop-r.invariant in
-    let tested = rw (c.requires.left.2, I.1) at c.is_open.ensures in
+    let R = c.reach-tail.ensures in
+    let tested = rw (c.requires.left.2, I.1) at c.is_open-reached.ensures in
     let next = ap (λ x. get_or of.depth x 0 + 1) c.requires.left.2 in
-    let waits : of.queue.head - 1 < of.queue.tail = omega (arith, c.requires.left) in
-    elim c.if-is_open.branch [
-      | then-is_open w ↦ rw (w.self-is, w.tail-is) (
-        rw w.put.ensures.0
-            (spreading_take c.requires.queued I.0 c.loop-r-test.true of.base.sizes.1 waits (sym tested ∙ w.if-is_open.true) _ next),
-        I.1,
-        w.put.ensures.1 ∙ I.2,
-        w.put.ensures.2 ∙ I.3,
-      )
-      | else-is_open w ↦ rw (w.self-is, w.tail-is)
-          (spreading_skip c.requires.queued I.0 c.loop-r-test.true (sym tested ∙ w.if-is_open.false), I.1, I.2, I.3)
-    ]
+    let waits : of.queue.head - 1 < of.queue.tail = omega (arith, c.requires.left) in (
+      rw (R.depth, R.queue.1, R.end) (spreading_turn c.requires.queued I.0 c.loop-r-test.true of.base.sizes.1 waits c.is_open-reached.result tested _ next),
+      R.queue.0 ∙ I.1,
+      R.queue.2 ∙ I.2,
+      R.queue.3 ∙ I.3,
+    )
 
 pub end_at-requires : goal.end_at-requires
 end_at-requires c =

@@ -1,21 +1,18 @@
--- `penalty` meets its contract. The invariant: the sum is what the first i biases cost. Assumes nothing.
-use Rattle.std.proofs.Common.{arith}
-use Rattle.shifts.proofs.Searched.{summing_first, summing_next, summing_all}
+-- `penalty` meets its contract. Assumes nothing.
+use Rattle.std.proofs.Common.{◌≡◌, ◌+◌, ◌<◌, get_or, ◌∙◌, arith}
+use lib.Seq.{get_or-take}
+use Rattle.std.proofs.lemmas.List.{length-take}
+use Rattle.shifts.proofs.Searched.{summing_first, summing_next}
 use Rattle.shifts.proofs.biases.BiasList.penalty.Goals as goal
 
-pub loop-i-init : goal.loop-i-init
-loop-i-init c = summing_first
+pub loop-bias-init : goal.loop-bias-init
+loop-bias-init c = summing_first
 
-pub weight-sum-requires : goal.weight-sum-requires
-weight-sum-requires c = omega (arith, c.from.ensures, c.args.self.now.held.low c.loop-i.i c.loop-i-test.true)
-
-pub overflow_add-sum : goal.overflow_add-sum
-overflow_add-sum c =
-    let next = summing_next c.loop-i.invariant c.loop-i-test.true c.from.ensures c.weight-sum.ensures in
-    omega (arith, next.small, next.within, c.args.self.now.held.fits)
-
-pub loop-i-preserved : goal.loop-i-preserved
-loop-i-preserved c = summing_next c.loop-i.invariant c.loop-i-test.true c.from.ensures c.weight-sum.ensures
-
-pub returns : goal.returns
-returns c = summing_all c.loop-i.invariant c.loop-i-test.false c.args.self.now.held.fits
+pub loop-bias-preserved : goal.loop-bias-preserved
+loop-bias-preserved c =
+    let list = c.args.self.now in
+    let i = c.loop-bias.bias-index in
+    let inside : i < list.count = omega (arith, c.loop-bias-test.true, length-take list.count list.biases) in
+    let bias : c.from.result ≡ get_or list.biases i 0 = c.from.ensures ∙ get_or-take list.count list.biases i 0 inside in
+    let low : c.args.x + c.from.result < 2045 = omega (arith, bias, list.held.low i inside) in
+    summing_next c.loop-bias.invariant inside bias (c.from-sum.ensures ∙ c.from-weights.ensures.costs c.from.result low)

@@ -2,5 +2,5 @@
 use Rattle.shifts.proofs.Searched.{Summing}
 use Rattle.shifts.proofs.biases.BiasList.penalty.Given as goal
 
-abbrev pub invariant-loop-i : goal.invariant-loop-i
-invariant-loop-i l = Summing l.self.biases l.self.count l.x l.sum l.i
+abbrev pub invariant-loop-bias : goal.invariant-loop-bias
+invariant-loop-bias l = Summing l.self.biases l.self.count l.x l.sum l.bias-index
