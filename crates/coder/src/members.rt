@@ -1,8 +1,8 @@
 // The transmitted members of a check, and how many checks a word does not meet.
-ghost use Rattle.std.specs.Prelude.{◌≡◌, ◌≤◌, length};
-ghost use Rattle.refusals.specs.Outcome.{outcome};
+ghost use Rattle.std.specs.Prelude.{◌≡◌, ◌≤◌, ◌++◌, length, drop};
+ghost use Rattle.refusals.specs.Outcome.{outcome, after};
 ghost use Rattle.ldpc.specs.Code.{checks_of};
-ghost use Rattle.coder.specs.Calls.{listed, list_written, unsatisfied_of, unsatisfied_told};
+ghost use Rattle.coder.specs.Calls.{code_members, members_told, listed, list_written, unsatisfied_of, unsatisfied_told};
 
 use bits::Bits;
 use ldpc::{Code, CodeGraph, ValidCode};
@@ -41,6 +41,24 @@ pub fn unmet_checks(code: ValidCode, word: Bits<'_>) -> usize
     }
 }
 
+// The members of a check that there is, where out has room for them, and how many they are.
+#[tactic(auto, using(crate::proofs::Listed::count_is, crate::proofs::Listed::members_are))]
+fn list_members(g: &CodeGraph, check: usize, out: &mut [u32]) -> Result<usize, Refusal>
+    ensures result_value { outcome result ≡ members_told g.now.code.code check (length out.old) }
+    ensures out_after { out.new ≡ after (members_told g.now.code.code check (length out.old)) (λ n. code_members g.now.code.code check ++ drop n out.old) out.old }
+{
+    let edges = g.code.edges();
+    let n = check_lists::count_members(g, check, edges);
+    if out.len() < n {
+        return Err(Refusal::Output {
+            given: out.len(),
+            wanted: n,
+        });
+    }
+    check_lists::write_members(g, check, edges, out);
+    Ok(n)
+}
+
 // Writes the transmitted members of a check, in edge order, to the front of out, and answers how many there are.
 #[tactic(auto, unfolding(crate::specs::Calls::listed, crate::specs::Calls::list_written, ldpc::specs::Choice::if_made))]
 pub fn check_members(c: Code, check: usize, out: &mut [u32]) -> Result<usize, Refusal>
@@ -52,17 +70,7 @@ pub fn check_members(c: Code, check: usize, out: &mut [u32]) -> Result<usize, Re
     if check >= checks {
         return Err(Refusal::NoCheck { check, checks });
     }
-    let g = CodeGraph::new(code);
-    let edges = code.edges();
-    let n = check_lists::count_members(&g, check, edges);
-    if out.len() < n {
-        return Err(Refusal::Output {
-            given: out.len(),
-            wanted: n,
-        });
-    }
-    check_lists::write_members(&g, check, edges, out);
-    Ok(n)
+    list_members(&CodeGraph::new(code), check, out)
 }
 
 // How many checks a word of any length does not meet.

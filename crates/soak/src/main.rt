@@ -19,7 +19,7 @@ use decoder::{Decode, DecodeResult};
 use ldpc::Code;
 use refusals::Refusal;
 use std::io;
-use tally::{Totals, add, limit_of, sum_of};
+use tally::{Totals, limit_of, sum_of};
 
 // More work memory than any of the codes needs, and a byte more than the longest word.
 const WORK: usize = 8000;
@@ -44,7 +44,7 @@ impl<'a> List<'a> {
         let d = changed_of(self.decode, changed);
         self.decode = d.grant(g, &mut self.work[..lent])?;
         self.sum = sum_of(self.sum, usize::from(g));
-        add(&mut self.totals.grants, 1);
+        self.totals.count_grant();
         Ok(())
     }
 
@@ -75,10 +75,8 @@ impl<'a> List<'a> {
 
     fn count_read(&mut self, r: DecodeResult, out: &[u8]) {
         let differences = self.differences(r, out);
-        add(&mut self.totals.differences, differences);
-        add(&mut self.totals.reads, 1);
-        add(&mut self.totals.converged, usize::from(r.converged));
-        add(&mut self.totals.clean, usize::from(r.clean));
+        self.totals.count_differences(differences);
+        self.totals.count_read(r.converged, r.clean);
     }
 
     // A refused read leaves its output as it was.
@@ -91,7 +89,7 @@ impl<'a> List<'a> {
         let answer = d.read(&self.work[..lent], &mut out[..room]);
         match answer {
             Ok(r) => self.count_read(r, &out),
-            Err(_) => add(&mut self.totals.differences, apart(&out, &blank)),
+            Err(_) => self.totals.count_differences(apart(&out, &blank)),
         }
         answer.map(|_| ())
     }
@@ -107,11 +105,11 @@ impl<'a> List<'a> {
                 changed,
             } => self.read(room, lent, changed),
         };
-        add(&mut self.totals.refusals, usize::from(answer.is_err()));
-        add(
-            &mut self.totals.differences,
-            usize::from(answer.err() != wanted),
-        );
+        if answer.is_err() {
+            self.totals.count_refusal();
+        }
+        self.totals
+            .count_differences(usize::from(answer.err() != wanted));
         answer.is_err()
     }
 
@@ -132,7 +130,7 @@ impl<'a> List<'a> {
 // A start, which is to be accepted, a list of 3 to 8 calls, and a read.
 fn soak_list(c: Code, seed: usize, rx: &[f32], work: &mut [f32], totals: &mut Totals) {
     let Ok(decode) = Decode::start(c, rx, work) else {
-        add(&mut totals.differences, 1);
+        totals.count_differences(1);
         return;
     };
     let mut list = List {
@@ -147,9 +145,8 @@ fn soak_list(c: Code, seed: usize, rx: &[f32], work: &mut [f32], totals: &mut To
         list.next_call();
     }
     list.read_plainly();
-    let iterations = usize::from(list.decode.iterations);
-    add(&mut list.totals.lists, 1);
-    add(&mut list.totals.iterations, iterations);
+    let iterations = list.decode.iterations;
+    list.totals.count_list(iterations);
 }
 
 // A list of a code, if Choice makes it.
