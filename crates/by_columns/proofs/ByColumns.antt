@@ -10,7 +10,7 @@ use lib.Ieee.{Float, nan, add, sub, binary32}
 use Rattle.laws.specs.Written.{Written, tabulate}
 use Rattle.laws.proofs.Folded.{folded_ext}
 use Rattle.laws.proofs.Slots.{slot_lt, slot_div, slot_mod, slot_is, edge_lt, row_le}
-use Rattle.laws.proofs.Written.{Upto, same, block, upto_tabulated, get_d_tabulate, length_tabulate, put_tabulated, part_at}
+use Rattle.laws.proofs.Written.{Upto, same, block, upto_tabulated, get_d_tabulate, put_tabulated, part_at}
 use Rattle.tables.specs.declared.BaseGraph.{BaseGraph}
 use Rattle.matrix.specs.Edges.{edges, edge_column, edge_shift, bit_at, slot_of, ColumnList}
 use Rattle.matrix.proofs.ByColumn.{by_column}

@@ -16,7 +16,6 @@ use Rattle.matrix.specs.Edges.{edges, edge_column, edge_shift, row_edges, edges_
 use Rattle.matrix.proofs.ByRow.{row_entry, length_next, by_row_at, by_row_most}
 use Rattle.messages.specs.Memory.{bits_of, slots_of, to_checks_at, to_bits_at, needed}
 use Rattle.ldpc.specs.declared.choice.Code.{Code}
-use Rattle.ldpc.specs.declared.valid.ValidCode.{ValidCode}
 use Rattle.ldpc.specs.Choice.{made}
 use Rattle.ldpc.specs.Code.{code_graph, work_of}
 use Rattle.ldpc.proofs.Made.{sized as made_sizes}

@@ -7,7 +7,7 @@ use lib.Seq.{get_or-set_same, get_or-set_other}
 use lib.Ieee.{Float, nan, sub, binary32}
 use Rattle.laws.specs.Written.{Written, At, tabulate}
 use Rattle.laws.proofs.Slots.{slot_div, slot_mod, slot_is, turned_back, back_then_on_below}
-use Rattle.laws.proofs.Written.{Upto, upto_none, upto_run, upto_all, same, tabulated}
+use Rattle.laws.proofs.Written.{Upto, upto_run, upto_all, same, tabulated}
 use Rattle.messages.specs.Memory.{number}
 use Rattle.slots.specs.Row.{Of}
 use Rattle.totals.specs.Joined.{joined_slot, total_over, offset_of, Joins, Fits, Sent}
