@@ -18,28 +18,24 @@ xors true false = refl
 xors false true = refl
 xors false false = refl
 
--- a mask that is passed, and one that is kept
-pub passed : (odd : List ℕ) (bs : List Bool) → odd ≡ map ones bs → map (to_z w32) odd ≡ map mask_of bs
-passed odd bs e = ap (map (to_z w32)) e ∙ by bs
+-- a mask that is passed, and one that is kept: of each bit it is the same
+same_mask : {A B : Type 0} (f : A → B) (g : Bool → A) (h : Bool → B) → f (g true) ≡ h true → f (g false) ≡ h false
+    → (odd : List A) (bs : List Bool) → odd ≡ map g bs → map f odd ≡ map h bs
+same_mask f g h all none odd bs e = ap (map f) e ∙ by bs
   where
-    one : (b : Bool) → to_z w32 (ones b) ≡ mask_of b
-    one true = refl
-    one false = refl
+    one : (b : Bool) → f (g b) ≡ h b
+    one true = all
+    one false = none
 
-    by : (bs : List Bool) → map (to_z w32) (map ones bs) ≡ map mask_of bs
+    by : (bs : List Bool) → map f (map g bs) ≡ map h bs
     by [] = refl
     by (b ∷ bs) = ap₂ ◌∷◌ (one b) (by bs)
+
+pub passed : (odd : List ℕ) (bs : List Bool) → odd ≡ map ones bs → map (to_z w32) odd ≡ map mask_of bs
+passed = same_mask (to_z w32) ones mask_of refl refl
 
 pub kept : (odd : List ℤ) (bs : List Bool) → odd ≡ map mask_of bs → map (of_z w32) odd ≡ map ones bs
-kept odd bs e = ap (map (of_z w32)) e ∙ by bs
-  where
-    one : (b : Bool) → of_z w32 (mask_of b) ≡ ones b
-    one true = refl
-    one false = refl
-
-    by : (bs : List Bool) → map (of_z w32) (map mask_of bs) ≡ map ones bs
-    by [] = refl
-    by (b ∷ bs) = ap₂ ◌∷◌ (one b) (by bs)
+kept = same_mask (of_z w32) mask_of ones refl refl
 
 -- what a select reads of a mask
 pub tops_ones : (bs : List Bool) → map (top 31) (map ones bs) ≡ bs
