@@ -27,6 +27,16 @@ pub fn add(sums: &mut [u8], bits: &[u8])
     }
 }
 
+// Adds the one bit of a column, where it is there. By `add` a count of unmet checks of 60 bits, at a lift of 1, takes a fifth longer.
+fn add_bit(sums: &mut [u8], column: &[u8])
+    requires { (length sums.old ≡ 1) × (length column.now ≤ 1) }
+    ensures { Added column.now sums.old sums.new }
+{
+    if column.len() == 1 {
+        sums[0] = differ(sums[0], column[0]);
+    }
+}
+
 // Adds a column's bits, turned by s, to as many sums as it has offsets: offset t gets bit (t + s) mod z. What the column lacks
 // of z bits is 0. That the sums are bits is asked, since a `Bits` cannot be written.
 pub fn add_turned(sums: &mut [u8], column: &[u8], s: usize)
@@ -34,6 +44,10 @@ pub fn add_turned(sums: &mut [u8], column: &[u8], s: usize)
     requires bits { Bits sums.old }
     ensures { AddedTurned s column.now sums.old sums.new }
 {
+    if sums.len() == 1 {
+        add_bit(sums, column);
+        return;
+    }
     let (low, high) = sums.split_at_mut(sums.len() - s);
     let (front, back) = column.split_at(s.min(column.len()));
     add(low, back);

@@ -91,12 +91,12 @@ impl Search {
             → get_or self.new.depth r 0
             ≡ steps self.old.base.m_b (meets shared.now.near) (λ q. eqb (get_or self.old.depth q 0) 0) r }
     {
-        // A `while let`: the queue grows as it is worked off, so there is no range and no list to go over.
-        while let Some(q) = self.queue.pop() {
-            self.spread(shared, usize::from(q));
-            if self.queue.tail == self.base.m_b {
+        // A `while`: the queue grows as it is worked off, so there is no range and no list to go over.
+        while self.queue.tail < self.base.m_b {
+            let Some(q) = self.queue.pop() else {
                 return;
-            }
+            };
+            self.spread(shared, usize::from(q));
         }
     }
 }

@@ -23,6 +23,12 @@ impl BiasList {
         }
     }
 
+    pub fn clear(&mut self)
+        ensures { (self.new.biases ≡ self.old.biases) × (self.new.count ≡ 0) }
+    {
+        self.count = 0;
+    }
+
     pub fn push(&mut self, bias: usize)
         requires { (self.old.count < 183) × (bias < 1534) }
         ensures { (self.new.biases ≡ set self.old.biases self.old.count bias) × (self.new.count ≡ self.old.count + 1) }

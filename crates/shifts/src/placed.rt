@@ -49,17 +49,16 @@ impl<'a> Placed<'a> {
         }
     }
 
-    // The biases of the next shift's place.
-    pub fn collect_biases(&self) -> BiasList
-        ensures { Biases (penalty self.now.rows.now self.now.shifts.now) result.biases result.count }
+    // Collects the biases of the next shift's place.
+    pub fn collect_biases(&self, biases: &mut BiasList)
+        ensures { Biases (penalty self.now.rows.now self.now.shifts.now) biases.new.biases biases.new.count }
     {
         let place = self.shifts.len() % 3;
-        let mut biases = BiasList::new();
+        biases.clear();
         for e in 0..3 {
             if e != place {
-                self.add_biases(e, &mut biases);
+                self.add_biases(e, biases);
             }
         }
-        biases
     }
 }

@@ -5,7 +5,7 @@ use Rattle.shifts.proofs.placed.Placed.collect_biases.Goals as goal
 use Rattle.shifts.proofs.placed.Placed.collect_biases.Goals.{then-e-place, else-e-place}
 
 pub loop-e-init : goal.loop-e-init
-loop-e-init c = rw c.new-biases.ensures (collecting_first c.new-biases.result.held.long)
+loop-e-init c = rw (c.clear.ensures.0, c.clear.ensures.1) (collecting_first c.args.biases.now.held.long)
 
 pub add_biases-requires : goal.add_biases-requires
 add_biases-requires c = (c.loop-e-test.true, omega (arith, c.loop-e-test.true, c.loop-e.invariant.most))
