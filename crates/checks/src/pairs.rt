@@ -1,5 +1,6 @@
 // The checks of a base row by two blocks of 4 at a time. The blocks of a pair may overlap: what a check sends is a matter of the
 // messages to it alone, so that it may be computed twice.
+// The functions of block.rt stand here for two: with one block at a time an edge takes 17 instructions where it takes 14.
 ghost use Rattle.std.specs.Prelude.{◌≡◌, ◌+◌, ◌≤◌, length};
 ghost use Rattle.std.specs.Float.{nan};
 ghost use Rattle.laws.specs.Written.{Written};
