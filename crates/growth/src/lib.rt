@@ -14,7 +14,7 @@ ghost use Rattle.growth.specs.Growth.{rows_of};
 use crate::base_rows::BaseRows;
 use crate::links::Links;
 
-// The rows of all columns, chosen one after another. They are a slice, as C lends them.
+// The rows of all columns, chosen one after another. They are a slice, as C lends them, and its length is asked here.
 pub fn grow(m_b: usize, k_b: usize, rows: &mut [u8])
     requires { (3 ≤ m_b) × (k_b + m_b ≤ 64) × (length rows.old ≡ 3 * k_b) }
     ensures { rows.new ≡ rows_of m_b k_b }

@@ -21,8 +21,8 @@ fn next_shift(
     search(weights, biases, state)
 }
 
-// The shifts of k_b columns' rows, from a seed. They are a slice beside the rows, as C lends them; no struct has both, since the rows are
-// read and the shifts written.
+// The shifts of k_b columns' rows, from a seed. They are a slice beside the rows, as C lends them, and their lengths are asked here: no
+// struct has both, since the rows are read and the shifts written.
 pub fn choose_shifts(k_b: usize, rows: &[u8], seed: u64, shifts: &mut [u16])
     requires { (k_b ≤ 61) × (length rows.now ≡ 3 * k_b) × (length shifts.old ≡ 3 * k_b) }
     ensures { shifts.new ≡ shifts_of rows.now seed (3 * k_b) }
