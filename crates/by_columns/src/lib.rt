@@ -1,4 +1,4 @@
-// The bit pass column after column.
+// The bit pass column after column. Lengths are asked beside `Lifted`, for the same reason as in totals.
 #![tactic(auto)]
 
 ghost use Rattle.std.specs.Prelude.{◌+◌, ◌<◌, ◌≤◌, ◌≡◌, length};

@@ -1,4 +1,5 @@
-// Which rows share a column: 64 tests for each of 64 rows.
+// Which rows share a column: 64 tests for each of 64 rows. A row below 64 is asked for at each call: a type for it would be made
+// and taken apart at each.
 ghost use Rattle.std.specs.Prelude.{◌≡◌, true, ◌+◌, ◌*◌, ◌<◌, length, set};
 ghost use Rattle.growth.specs.Search.{meets};
 

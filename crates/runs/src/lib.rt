@@ -10,7 +10,8 @@ use ldpc::{Code, ValidCode};
 use lists::Lists;
 use sizes::Lifted;
 
-// How far a decode has got: the iterations done, and whether the last of them converged.
+// How far a decode has got: the iterations done, and whether the last of them converged. `Decode` has the two beside its code, as its
+// callers see plain fields.
 #[derive(Clone, Copy, Debug, PartialEq, Eq)]
 pub struct Reach {
     pub iterations: u16,

@@ -37,7 +37,7 @@ const FIRST_COLUMN: [usize; 18] = [
     0, 51, 96, 135, 168, 195, 216, 233, 248, 261, 272, 281, 288, 295, 302, 308, 313, 317,
 ];
 
-// The number of the graph of a rate and a family, below 18.
+// The number of the graph of a rate and a family, below 18. Rate and family are numbers, as in the records: any is taken.
 #[tactic(auto, unfolding(crate::specs::Graph::graph_number))]
 pub fn graph_number(rate: usize, family: usize) -> usize
     ensures value { result ≡ graph_number rate family }
