@@ -27,7 +27,7 @@ pub fn total_of(parity: Bits<'_>, m_b: usize, z: usize, total: &mut [u8])
     }
 }
 
-// p_0: T turned back by one. A loop, as in `copy_info`.
+// p_0: T turned back by one, a whole list, where `rotated` of base_edges is of one offset. A loop, as in `copy_info`.
 pub fn turn_back(total: &[u8], z: usize, first: &mut [u8])
     requires { (1 ≤ z) × (z ≤ length total.now) × (z ≤ length first.old) }
     ensures { first.new ≡ rewritten 0 z (λ t. get_or total.now ((t + z - 1) % z) 0) first.old }

@@ -11,7 +11,7 @@ use slots::slot;
 use std::simd::prelude::*;
 
 impl<'a> Row<'a> {
-    // Where offset t goes by a turn.
+    // Where offset t goes by a turn. Two lines, as `Column::back` of totals, which goes the other way: no word for both is shorter.
     fn turned(&self, t: usize, turn: usize) -> usize
         requires { (t < self.now.z) × (turn < self.now.z) }
         ensures { result ≡ (t + turn) % self.now.z }

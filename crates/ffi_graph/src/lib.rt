@@ -2,6 +2,7 @@
 // four-cycles. Every function tests the answer's size first, then calls the library. Assumes of its callers what the header asks:
 // slices that hold as many elements as they say, and that do not overlap: rows and shifts are two of them, since C has no struct of
 // slices.
+// The first test stands in each function: after a closure that did the rest, nothing would be known of what it wrote.
 #![tactic(auto)]
 
 mod assign_shifts;

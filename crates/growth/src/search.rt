@@ -20,7 +20,8 @@ impl Search {
     pub fn new(base: BaseRows) -> Search
         ensures { (result.base.m_b ≡ base.m_b) × (result.depth ≡ replicate 64 base.m_b) × (result.queue.head ≡ 0) × (result.queue.tail ≡ 0) }
     {
-        // at most 64, so the cast loses nothing
+        // At most 64, so the cast loses nothing. That depth says `not reached`, as in the definition: an option in each place would be
+        // taken apart at each row.
         Search {
             base,
             depth: [base.m_b as u8; 64],

@@ -16,7 +16,7 @@ pub fn load<const N: usize>(work: &[f32], at: usize) -> Simd<f32, N>
     Simd::from_slice(&work[at..])
 }
 
-// Z numbers from `at` on, in the first lanes; the others hold zeros.
+// Z numbers from `at` on, in the first lanes. What the others hold counts for nothing.
 pub fn load_some<const Z: usize, const N: usize>(work: &[f32], at: usize) -> Simd<f32, N>
     requires { (at + Z ≤ length work.now) × (Z ≤ N) }
     ensures { (j : ℕ) → j < Z → get_or result j nan ≡ get_or work.now (at + j) nan }

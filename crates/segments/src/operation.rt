@@ -14,7 +14,7 @@ pub trait Operation: Copy {
         ensures { result ≡ op to a b };
 }
 
-// The same by vectors of N, lane by lane, of the numbers from `at` on.
+// The same by vectors of N, lane by lane, of the numbers from `at` on: a place and not a part, since the contract is of the whole run.
 pub trait Lanewise<const N: usize>: Operation {
     fn block(self, to: &[f32], a: &[f32], b: &[f32], at: usize) -> Simd<f32, N>
         requires { (at + N ≤ length to.now) × (at + N ≤ length a.now) × (at + N ≤ length b.now) }

@@ -5,7 +5,7 @@ ghost use Rattle.segments.specs.Combined.{combined};
 
 use crate::operation::{Lanewise, Operation};
 
-// Fewer than four: the compiler, which knows it, makes no vectors here.
+// Fewer than four: the loop of `long`, where the compiler knows how few they are, and makes no vectors and no test of whether they pay.
 #[tactic(auto, using(crate::proofs::Runs::upto_none, crate::proofs::Runs::upto_all))]
 fn few<O: Operation>(o: O, to: &mut [f32], a: &[f32], b: &[f32])
     requires few { length to.old < 4 }
