@@ -1,7 +1,7 @@
 // The bit pass column after column. Lengths are asked beside `Lifted`, for the same reason as in totals.
 #![tactic(auto)]
 
-ghost use Rattle.std.specs.Prelude.{◌+◌, ◌<◌, ◌≤◌, ◌≡◌, length};
+ghost use Rattle.std.specs.Prelude.{◌+◌, ◌<◌, ◌≤◌, ◌≡◌, true, length};
 ghost use Rattle.messages.specs.Regions.{totals_of, to_checks_of};
 ghost use Rattle.ldpc.specs.Code.{code_graph};
 ghost use Rattle.by_columns.specs.Columns.{TotalsDone, SentDone};
@@ -9,9 +9,10 @@ ghost use Rattle.by_columns.specs.Columns.{TotalsDone, SentDone};
 use sizes::Lifted;
 use totals::Column;
 
-// Column v.
+// Column v. By LIFT_IS_ONE a lift of 1 has a loop over the columns of its own, down to the arithmetic, that keeps nothing for the
+// ways of the longer lifts: the compiler makes `columns`, `column` and `column_pass` once for each of its values.
 #[tactic(auto, using(crate::proofs::Lent::column_fits, crate::proofs::Lent::column_ends))]
-fn column(
+fn column<const LIFT_IS_ONE: bool>(
     l: &Lifted,
     v: usize,
     channel: &[f32],
@@ -19,6 +20,7 @@ fn column(
     to_checks: &mut [f32],
     to_bits: &[f32],
 )
+    requires lift { LIFT_IS_ONE ≡ true → l.now.code.code.z ≡ 1 }
     requires there { v < l.now.sizes.info + l.now.sizes.rows }
     requires bits { (length channel.now ≡ l.now.sizes.bits) × (length totals.old ≡ l.now.sizes.bits) }
     requires slots { (length to_checks.old ≡ l.now.sizes.slots) × (length to_bits.now ≡ l.now.sizes.slots) }
@@ -33,13 +35,32 @@ fn column(
         turn: &l.lists.turn[..],
         slots: l.sizes.slots,
     };
-    totals::column_pass(
+    totals::column_pass::<LIFT_IS_ONE>(
         column,
         &channel[from..from + z],
         &mut totals[from..from + z],
         to_checks,
         to_bits,
     );
+}
+
+// Every column.
+fn columns<const LIFT_IS_ONE: bool>(
+    l: &Lifted,
+    channel: &[f32],
+    totals: &mut [f32],
+    to_checks: &mut [f32],
+    to_bits: &[f32],
+)
+    requires lift { LIFT_IS_ONE ≡ true → l.now.code.code.z ≡ 1 }
+    requires bits { (length channel.now ≡ l.now.sizes.bits) × (length totals.old ≡ l.now.sizes.bits) }
+    requires slots { (length to_checks.old ≡ l.now.sizes.slots) × (length to_bits.now ≡ l.now.sizes.slots) }
+    ensures totals_after { totals.new ≡ totals_of (code_graph l.now.code.code) l.now.code.code.z channel.now to_bits.now }
+    ensures checks_after { to_checks.new ≡ to_checks_of (code_graph l.now.code.code) l.now.code.code.z channel.now to_bits.now }
+{
+    for v in 0..l.sizes.info + l.sizes.rows {
+        column::<LIFT_IS_ONE>(l, v, channel, totals, to_checks, to_bits);
+    }
 }
 
 // The totals, and what every bit sends to its checks.
@@ -55,7 +76,9 @@ pub fn bit_pass(
     ensures totals_after { totals.new ≡ totals_of (code_graph l.now.code.code) l.now.code.code.z channel.now to_bits.now }
     ensures checks_after { to_checks.new ≡ to_checks_of (code_graph l.now.code.code) l.now.code.code.z channel.now to_bits.now }
 {
-    for v in 0..l.sizes.info + l.sizes.rows {
-        column(l, v, channel, totals, to_checks, to_bits);
+    if l.code.code.z == 1 {
+        columns::<true>(l, channel, totals, to_checks, to_bits);
+    } else {
+        columns::<false>(l, channel, totals, to_checks, to_bits);
     }
 }

@@ -2,7 +2,7 @@
 use mathlib.Core.Path.{◌≡◌, refl, sym, ap, subst, ◌∙◌}
 use mathlib.Core.Bool.{true}
 use mathlib.Core.List.{List}
-use Prim.Native.Nat.{ℕ, suc, ◌+◌, ◌*◌, ◌%◌, ◌-◌, ◌<◌, ◌≤◌, min}
+use Prim.Native.Nat.{ℕ, suc, ◌+◌, ◌*◌, ◌%◌, ◌-◌, ◌<◌, ◌≤◌}
 use native.Mathlib.Omega.{arith}
 use native.Mathlib.Numerals.{add-one}
 use native.Mathlib.Nat.{mul-le-mul, mod-lt}
@@ -217,16 +217,14 @@ module _ (l : Lifted) (r : ℕ) (below : r < l.sizes.rows) where
       (subst (λ (x : ℕ). take n (drop x l.lists.now.order) ≡ row_edges (g l) r) (sym row_begins) part_is)
 
 -- the list of column v: a part of those in rising row
-pub column_part : (l : Lifted) (v from end : ℕ) → v < l.sizes.info + l.sizes.rows → from ≡ min (3 * v) (l.sizes.info + 2 * v + 1)
-    → end ≡ min (3 * v + 3) (l.sizes.info + 2 * v + 3) → ColumnList (code_graph l.code.code) v (take (end - from) (drop from l.lists.now.sorted))
-unfolding column_start
+pub column_part : (l : Lifted) (v from end : ℕ) → v < l.sizes.info + l.sizes.rows → from ≡ column_start l.sizes.info v
+    → end ≡ column_start l.sizes.info (v + 1) → ColumnList (code_graph l.code.code) v (take (end - from) (drop from l.lists.now.sorted))
 column_part l v from end h e k =
-    let k_b = (g l).shape.k_b in
-    let a : column_start k_b v ≡ from = omega (arith, (K l).info_is) in
-    let b : column_start k_b (v + 1) - column_start k_b v ≡ end - from = omega (arith, (K l).info_is) in
+    let a : column_start (g l).shape.k_b v ≡ from = rw (← (K l).info_is) (sym e) in
+    let b : column_start (g l).shape.k_b (v + 1) - column_start (g l).shape.k_b v ≡ end - from = rw (← (K l).info_is, e, k) in
     subst (λ (x : List ℕ). ColumnList (g l) v (take (end - from) (drop from x))) (sym (sorted_is l))
     (subst (λ (x : ℕ). ColumnList (g l) v (take (end - from) (drop x (lists_of (c l)).sorted))) a
-    (subst (λ (x : ℕ). ColumnList (g l) v (take x (drop (column_start k_b v) (lists_of (c l)).sorted))) b
+    (subst (λ (x : ℕ). ColumnList (g l) v (take x (drop (column_start (g l).shape.k_b v) (lists_of (c l)).sorted))) b
     (column_sorted (c l) l.code.made v (omega (arith, (K l).info_is, (K l).rows_is)))))
 
 -- an edge of a row, and its last slot

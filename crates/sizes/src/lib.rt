@@ -73,16 +73,18 @@ impl<'a> Lifted<'a> {
         }
     }
 
-    // The base edges of column v, in rising row.
-    #[tactic(auto, using(crate::proofs::Lent::sorted_long, crate::proofs::Lent::column_part))]
+    // The base edges of column v, in rising row. By a branch: the bounds by `min` take more of a column at a short lift.
+    #[tactic(auto, using(crate::proofs::Lent::sorted_long))]
     pub fn column(&self, v: usize) -> &[u8]
         requires { v < self.now.sizes.info + self.now.sizes.rows }
         ensures { ColumnList (code_graph self.now.code.code) v result.now }
     {
         let sorted = &self.lists.sorted[..];
         let k = self.sizes.info;
-        let from = (3 * v).min(k + 2 * v + 1);
-        let end = (3 * v + 3).min(k + 2 * v + 3);
-        &sorted[from..end]
+        if v <= k {
+            &sorted[3 * v..3 * v + 3]
+        } else {
+            &sorted[k + 2 * v + 1..k + 2 * v + 3]
+        }
     }
 }
