@@ -34,11 +34,6 @@ module _ {bias : List ℕ} {n x : ℕ} where
         small = omega (arith, S.small, q, weight_le (x + b) 1022);
       }
 
-  pub summing_all : {s i : ℕ} → Summing bias n x s i → n ≤ i → n ≤ 183 → (s ≡ bias_cost bias n x) × (s < 200000)
-  summing_all {s} {i} S h l =
-      let e : i ≡ n = omega (arith, S.within) in
-      (rw e at S.is, omega (arith, S.small))
-
 -- ---- (2) of the draws below i the one at `at` leads
 module _ (rows shifts : List ℕ) (s : ℕ) where
   abbrev pen : ℕ → ℕ

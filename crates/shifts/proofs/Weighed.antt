@@ -1,14 +1,14 @@
--- The laws of weights: (1) a weight goes by the difference alone, so a table holds it at d + 1022; (2) the table, as a sieve writes it.
+-- The laws of weights: (1) a weight goes by the difference alone, so a table holds it at d + 1022; (2) a test that a list is the
+-- table, which is computed along the list.
 -- Assumes nothing.
-use Rattle.std.proofs.Common.{◌≡◌, ℕ, zero, suc, ◌+◌, ◌-◌, ◌*◌, ◌%◌, ◌<◌, ◌≤◌, Bool, true, false, cond, ◌&&◌, eqb, ltb, List, length, get_or, set, replicate, sym, refl, ap, ◌∙◌, mod-lt, mod-eq_of_lt, suc-mul, add_comm, zero-add, arith, length-set, get_or-set_other, get_or-set_same, le-ltb, lt-ltb, eq-eqb, ne_eqb}
-use mathlib.Core.Bool.{and-true, and-false}
-use native.Mathlib.Decide.{ℕ_discrete, dec_lt}
-use native.Mathlib.Nat.{zero-mod, mod-add-mod, add-mod_right, add-mul-mod_self_left}
-use lib.ListN.{length-replicate, get_or-replicate, get_or-eq_default}
+use Rattle.std.proofs.Common.{◌≡◌, ℕ, zero, suc, ◌+◌, ◌*◌, ◌%◌, ◌<◌, ◌≤◌, Bool, true, false, cond, ◌&&◌, T, eqb, List, [], ◌∷◌, length, get_or, sym, ap, ◌∙◌, suc-mul, add_comm, arith, eq-eqb, ne_eqb, eqb→eq}
+use mir.Facts.{and_yes}
+use native.Mathlib.Decide.{ℕ_discrete}
+use native.Mathlib.Nat.{mod-add-mod, add-mul-mod_self_left}
 use Rattle.laws.specs.Range.{every, count}
 use Rattle.laws.specs.Columns.{congruent}
 use Rattle.laws.proofs.Range.{count_ext, lt_at}
-use Rattle.laws.proofs.Collect.{count_more, count_skip, count_most}
+use Rattle.laws.proofs.Collect.{count_most}
 use Rattle.shifts.specs.Shifts.{test_lifts, weight}
 use Rattle.shifts.specs.Biases.{Weights}
 
@@ -35,13 +35,9 @@ congruent_add z a b c h = by (ℕ_discrete (a % z) (b % z))
     by (no n) = rw (ne_eqb (a % z) (b % z) n, ne_eqb ((a + c) % z) ((b + c) % z) (λ e. n (same_add z a b c h e)))
 
 -- a test lift is above 0
-pub lift_pos : (t : ℕ) → t < 17 → 0 < get_or test_lifts t 0
+lift_pos : (t : ℕ) → t < 17 → 0 < get_or test_lifts t 0
 unfolding test_lifts every
 lift_pos t h = lt_at (λ k. 0) (λ k. get_or test_lifts k 0) 17 tt t h
-
-pub lift_lt : (t : ℕ) → t < 17 → get_or test_lifts t 0 < 512
-unfolding test_lifts every
-lift_lt t h = lt_at (λ k. get_or test_lifts k 0) (λ k. 512) 17 tt t h
 
 weight_add : (a b c : ℕ) → weight (a + c) (b + c) ≡ weight a b
 unfolding weight
@@ -67,115 +63,17 @@ weight_le up down = by (eqb up down)
     by true = omega arith
     by false = omega (arith, count_most (λ i. congruent (get_or test_lifts i 0) up down) 17)
 
--- ---- (2) the sieve: before i, each multiple of z away from 1022 has 1 more
-pub record Sieve (z : ℕ) (w₀ w : List ℕ) (i : ℕ) : Type 0 where
-  pub long : length w ≡ 2045
-  pub on : i % z ≡ 1022 % z
-  pub at : (k : ℕ) → k < 2045 → get_or w k 0 ≡ get_or w₀ k 0 + cond (congruent z k 1022 && ltb k i) 1 0
+-- ---- (2) the numbers of a list are the weights from i on
+unfoldable pub holds : List ℕ → ℕ → Bool
+holds [] i = true
+holds (x ∷ w) i = eqb x (weight i 1022) && holds w (suc i)
 
--- between two multiples there is none
-between : (z i k : ℕ) → 0 < z → i < k → k < i + z → k % z ≡ i % z → ⊥
-between z i k h l m e =
-    let r : (k - i) + i ≡ k = omega arith in
-    let s : (k - i + i) % z ≡ (0 + i) % z = rw (r, zero-add) e in
-    let t = same_add z (k - i) 0 i h s in
-    let small : k - i < z = omega arith in
-    omega (arith, t, mod-eq_of_lt small, zero-mod z)
+holds_at : (w : List ℕ) (i : ℕ) → T (holds w i) → (k : ℕ) → k < length w → get_or w k 0 ≡ weight (i + k) 1022
+unfolding holds
+holds_at [] i t k h = absurd (omega arith)
+holds_at (x ∷ w) i t zero h = eqb→eq x (weight i 1022) (and_yes (eqb x (weight i 1022)) (holds w (suc i)) t).0 ∙ ap (λ (n : ℕ). weight n 1022) (omega arith)
+holds_at (x ∷ w) i t (suc k) h =
+    holds_at w (suc i) (and_yes (eqb x (weight i 1022)) (holds w (suc i)) t).1 k (omega arith) ∙ ap (λ (n : ℕ). weight n 1022) (omega arith)
 
-apart : (z i k : ℕ) → 0 < z → i % z ≡ 1022 % z → i < k → k < i + z → congruent z k 1022 ≡ false
-unfolding congruent
-apart z i k h on l m = ne_eqb (k % z) (1022 % z) (λ e. between z i k h l m (e ∙ sym on))
-
-bit_le : (b : Bool) → cond b 1 0 ≤ 1
-bit_le true = omega arith
-bit_le false = omega arith
-
-module _ {z : ℕ} {w₀ : List ℕ} (lift : 0 < z) where
-  pub sieve_first : length w₀ ≡ 2045 → Sieve z w₀ w₀ (1022 % z)
-  unfolding congruent
-  sieve_first e =
-      record {
-        long = e;
-        on = mod-eq_of_lt (mod-lt 1022 lift);
-        at = λ k h. by k (dec_lt k (1022 % z));
-      }
-    where
-      by : (k : ℕ) → Dec (k < 1022 % z) → get_or w₀ k 0 ≡ get_or w₀ k 0 + cond (eqb (k % z) (1022 % z) && ltb k (1022 % z)) 1 0
-      by k (yes l) =
-          let m : k < z = omega (arith, mod-lt 1022 lift) in
-          rw (mod-eq_of_lt m, ne_eqb k (1022 % z) (omega arith)) (omega arith)
-      by k (no l) = rw (le-ltb k (1022 % z) (omega arith), and-false (eqb (k % z) (1022 % z))) (omega arith)
-
-  pub sieve_next : {w : List ℕ} {i : ℕ} → Sieve z w₀ w i → i < 2045 → Sieve z w₀ (set w i (get_or w i 0 + 1)) (i + z)
-  unfolding congruent
-  sieve_next {w} {i} S h =
-      record {
-        long = length-set w i (get_or w i 0 + 1) ∙ S.long;
-        on = add-mod_right i z ∙ S.on;
-        at = λ k l. by k l (ℕ_discrete k i) (dec_lt k i) (dec_lt k (i + z));
-      }
-    where
-      by : (k : ℕ) → k < 2045 → Dec (k ≡ i) → Dec (k < i) → Dec (k < i + z)
-          → get_or (set w i (get_or w i 0 + 1)) k 0 ≡ get_or w₀ k 0 + cond (congruent z k 1022 && ltb k (i + z)) 1 0
-      by k l (yes e) d d' =
-          let here : i < length w = omega (arith, S.long) in
-          let old : get_or w i 0 ≡ get_or w₀ i 0 + cond (congruent z i 1022 && ltb i i) 1 0 = S.at i h in
-          let c : congruent z i 1022 ≡ true = eq-eqb (i % z) (1022 % z) S.on in
-          let v : get_or w i 0 ≡ get_or w₀ i 0 = old ∙ rw (le-ltb i i (omega arith), and-false (congruent z i 1022)) (omega arith) in
-          rw (e, get_or-set_same w i (get_or w i 0 + 1) 0 here, c, lt-ltb i (i + z) (omega arith)) (omega arith)
-      by k l (no n) (yes b) d' =
-          get_or-set_other w i k (get_or w i 0 + 1) 0 n ∙ S.at k l ∙ rw (lt-ltb k i b, lt-ltb k (i + z) (omega arith))
-      by k l (no n) (no b) (yes m) =
-          get_or-set_other w i k (get_or w i 0 + 1) 0 n ∙ S.at k l ∙ rw (apart z i k lift S.on (omega arith) m)
-      by k l (no n) (no b) (no m) =
-          get_or-set_other w i k (get_or w i 0 + 1) 0 n ∙ S.at k l
-          ∙ rw (le-ltb k i (omega arith), le-ltb k (i + z) (omega arith))
-
-  pub sieve_all : {w : List ℕ} {i : ℕ} → Sieve z w₀ w i → 2045 ≤ i → (k : ℕ) → k < 2045
-      → get_or w k 0 ≡ get_or w₀ k 0 + cond (congruent z k 1022) 1 0
-  sieve_all {w} {i} S h k l = S.at k l ∙ rw (lt-ltb k i (omega arith), and-true (congruent z k 1022))
-
-  pub sieve_le : {w : List ℕ} {i : ℕ} → Sieve z w₀ w i → (k : ℕ) → k < 2045 → get_or w k 0 ≤ get_or w₀ k 0 + 1
-  sieve_le {w} {i} S k l = omega (arith, S.at k l, bit_le (congruent z k 1022 && ltb k i))
-
--- the table after t lifts
-pub record Lifted (t : ℕ) (w : List ℕ) : Type 0 where
-  pub long : length w ≡ 2045
-  pub at : (k : ℕ) → k < 2045 → get_or w k 0 ≡ count (λ i. congruent (get_or test_lifts i 0) k 1022) t
-
-pub lifted_none : {w : List ℕ} → w ≡ replicate 2045 0 → Lifted 0 w
-unfolding count
-lifted_none e = rw e (record { long = length-replicate {A = ℕ} 2045 0; at = λ k h. get_or-replicate {A = ℕ} 2045 k 0 0 h })
-
-pub lifted_low : {t : ℕ} {w : List ℕ} → Lifted t w → t ≤ 17 → (k : ℕ) → get_or w k 0 < 1000
-lifted_low {t} {w} L h k = by (dec_lt k 2045)
-  where
-    by : Dec (k < 2045) → get_or w k 0 < 1000
-    by (yes l) = omega (arith, L.at k l, count_most (λ i. congruent (get_or test_lifts i 0) k 1022) t)
-    by (no l) = let e : get_or w k 0 ≡ 0 = get_or-eq_default w 0 (omega (arith, L.long)) in omega arith
-
-count_step : (p : ℕ → Bool) (t : ℕ) → count p t + cond (p t) 1 0 ≡ count p (t + 1)
-count_step p t = by (p t) refl
-  where
-    by : (b : Bool) → p t ≡ b → count p t + cond b 1 0 ≡ count p (t + 1)
-    by true e = sym (count_more p t e)
-    by false e = omega (arith, count_skip p t e)
-
-pub lifted_next : {t z : ℕ} {w w' : List ℕ} → Lifted t w → z ≡ get_or test_lifts t 0 → length w' ≡ 2045
-    → ((k : ℕ) → k < 2045 → get_or w' k 0 ≡ get_or w k 0 + cond (congruent z k 1022) 1 0) → Lifted (t + 1) w'
-lifted_next {t} {z} {w} {w'} L e long at =
-    record {
-      long = long;
-      at = λ k h.
-          at k h ∙ rw (e, L.at k h) (count_step (λ i. congruent (get_or test_lifts i 0) k 1022) t);
-    }
-
-pub lifted_all : {w : List ℕ} → Lifted 17 w → Weights (set w 1022 1000)
-unfolding weight
-lifted_all {w} L = record { long = length-set w 1022 1000 ∙ L.long; at = λ k h. by k h (ℕ_discrete k 1022) }
-  where
-    by : (k : ℕ) → k < 2045 → Dec (k ≡ 1022) → get_or (set w 1022 1000) k 0 ≡ weight k 1022
-    by k h (yes e) =
-        let l : 1022 < length w = omega (arith, L.long) in
-        rw e (get_or-set_same w 1022 1000 0 l)
-    by k h (no n) = rw (ne_eqb k 1022 n) (get_or-set_other w 1022 k 1000 0 n ∙ L.at k h)
+pub weights_are : (w : List ℕ) → length w ≡ 2045 → T (holds w 0) → Weights w
+weights_are w e t = record { long = e; at = λ i h. holds_at w 0 t i (omega arith) ∙ ap (λ (n : ℕ). weight n 1022) (omega arith) }

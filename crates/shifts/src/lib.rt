@@ -7,6 +7,7 @@ mod generator;
 mod place;
 mod placed;
 mod search;
+mod weight_list;
 mod weights;
 
 pub use generator::{draw_of, next_state};
