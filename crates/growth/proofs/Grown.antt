@@ -1,6 +1,6 @@
 -- Growth gives three different rows below m to each column; and the lists that a loop keeps beside it. Assumes nothing.
 use mathlib.Core.Path.{◌≡◌, refl, sym, ap, ◌∙◌, subst}
-use mathlib.Core.Bool.{Bool, false, not, ◌||◌}
+use mathlib.Core.Bool.{false, not, ◌||◌}
 use mathlib.Core.List.{List, [], ◌∷◌, ◌++◌}
 use Prim.Native.Nat.{ℕ, zero, suc, ◌+◌, ◌*◌, ◌/◌, ◌%◌, ◌<◌, ◌≤◌}
 use native.Mathlib.Omega.{arith}
@@ -16,6 +16,7 @@ use Rattle.laws.specs.Columns.{faulty}
 use Rattle.laws.proofs.Collect.{count_most}
 use Rattle.laws.proofs.Foremost.{Lead, by_keys, lead_some}
 use Rattle.laws.proofs.Some.{some_none, some_ext}
+use Rattle.growth.specs.declared.rows.RowSet.{RowSet}
 use Rattle.growth.specs.Growth.{joins, shares, taken, distance, edges_on, ahead_by, next_row, grown, rows_of}
 use Rattle.growth.specs.Search.{meets, begun, joined, paired, chosen}
 use Rattle.growth.proofs.Chosen.{chosen_is}
@@ -122,23 +123,23 @@ grown_sound m k size p (suc n) h = by (ℕ_discrete p n) (grown_sound m k size p
         ∙ earlier (omega arith)
 
 -- before place p: its rows, the rows that share a column, and each row's edges
-pub record Growing (m k : ℕ) (rows : List ℕ) (near : List Bool) (degree : List ℕ) (p : ℕ) : Type 0 where
+pub record Growing (m k : ℕ) (rows : List ℕ) (near : List RowSet) (degree : List ℕ) (p : ℕ) : Type 0 where
   pub turn : p ≤ 3 * k
   pub long : length rows ≡ 3 * k
-  pub wide : length near ≡ 4096
+  pub wide : length near ≡ 64
   pub deep : length degree ≡ 64
   pub rows_at : (j : ℕ) → j < p → get_or rows j 0 ≡ get_or (grown m k p) j 0
   pub near_at : (q r : ℕ) → q < m → r < m → meets near q r ≡ shares m k (grown m k p) q r
   pub degree_at : (r : ℕ) → r < m → get_or degree r 0 ≡ edges_on m k (grown m k p) r
 
-pub growing_first : {m k : ℕ} {rows degree : List ℕ} {near : List Bool} → length rows ≡ 3 * k → length near ≡ 4096 → length degree ≡ 64
+pub growing_first : {m k : ℕ} {rows degree : List ℕ} {near : List RowSet} → length rows ≡ 3 * k → length near ≡ 64 → length degree ≡ 64
     → ((q r : ℕ) → q < m → r < m → meets near q r ≡ shares m k [] q r) → ((r : ℕ) → r < m → get_or degree r 0 ≡ edges_on m k [] r)
     → Growing m k rows near degree 0
 unfolding grown
 growing_first a b c e f =
     record { turn = omega arith; long = a; wide = b; deep = c; rows_at = λ j h. absurd (omega arith); near_at = e; degree_at = f }
 
-module _ {m k : ℕ} {rows degree : List ℕ} {near : List Bool} {p : ℕ} (size : 3 ≤ m) (G : Growing m k rows near degree p) where
+module _ {m k : ℕ} {rows degree : List ℕ} {near : List RowSet} {p : ℕ} (size : 3 ≤ m) (G : Growing m k rows near degree p) where
   pub growing_good : (j : ℕ) → j < p → faulty m rows j ≡ false
   growing_good j h = faulty_ext m rows (grown m k p) j (λ i l. G.rows_at i (omega arith)) ∙ grown_sound m k size j p h
 
@@ -174,7 +175,7 @@ module _ {m k : ℕ} {rows degree : List ℕ} {near : List Bool} {p : ℕ} (size
         (some_ext (λ e. paired (get_or rows (3 * (p / 3) + e) 0) x q s) (λ e. paired (get_or (grown m k p) (3 * (p / 3) + e) 0) x q s) (p % 3)
         (λ e h. rw (G.rows_at (3 * (p / 3) + e) (omega arith))))
 
-    pub growing_next : {near' : List Bool} → p < 3 * k → m ≤ 64 → length near' ≡ 4096
+    pub growing_next : {near' : List RowSet} → p < 3 * k → m ≤ 64 → length near' ≡ 64
         → ((q s : ℕ) → q < 64 → s < 64 → meets near' q s ≡ (meets near q s || joined rows p (p % 3) x q s))
         → Growing m k (set rows p x) near' (set degree x (get_or degree x 0 + 1)) (p + 1)
     growing_next {near'} h fits wide e =

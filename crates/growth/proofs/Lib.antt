@@ -1,5 +1,4 @@
 -- The laws of edge growth. Assumes nothing.
-pub mod Queue
 pub mod Reached
 pub mod Begun
 pub mod Kept
@@ -9,3 +8,5 @@ pub mod Parity
 pub mod Added
 pub mod Grown
 pub mod Edges
+pub mod Words
+pub mod Frontier

@@ -1,173 +1,278 @@
--- A search in steps: what is known while its queue is worked off, and that the depths are the fewest steps at its end.
--- Assumes nothing.
-use mathlib.Core.Path.{◌≡◌, refl, sym, ap, ◌∙◌}
-use mathlib.Core.Logic.{◌⊎◌, inl, inr, ⊎_elim}
-use mathlib.Core.Bool.{Bool, true, false, ◌&&◌}
-use mathlib.Core.List.{List}
-use Prim.Native.Nat.{ℕ, zero, suc, ◌+◌, ◌<◌, ◌≤◌}
+-- A search in steps: what is known before each, and that the rows that are left at its end are the farthest. Assumes nothing.
+use mathlib.Core.Path.{◌≡◌, refl, sym, ◌∙◌}
+use mathlib.Core.Logic.{◌⊎◌, inl, inr}
+use mathlib.Core.Bool.{Bool, true, false, not, ◌&&◌, ◌||◌, true≢false}
+use Prim.Native.Nat.{ℕ, zero, suc, ◌+◌, ◌-◌, ◌^◌, ◌<◌, ◌≤◌}
 use native.Mathlib.Omega.{arith}
+use native.Mathlib.Nat.{add-zero, add-suc}
 use native.Mathlib.Numerals.{add-one}
-use native.Mathlib.Decide.{ℕ_discrete, dec_lt}
-use lib.Dec.{eqb}
-use lib.ListN.{get_or}
-use borrow.Author.Tests.{lt-ltb, eq-eqb, ne_eqb, eqb-true}
-use Rattle.laws.specs.Range.{some, first}
-use Rattle.laws.proofs.First.{first_at, first_none}
-use Rattle.std.proofs.lemmas.Bool.{and_parts, false_from_ne_true, or_cases, or_right}
-use Rattle.laws.proofs.Some.{some_from, some_has}
+use native.Mathlib.Decide.{dec_lt}
+use lib.Dec.{leb, ltb}
+use borrow.Author.Tests.{lt-ltb, le-ltb}
+use Rattle.laws.specs.Range.{every, some, count, first}
+use Rattle.laws.proofs.Range.{every_fails}
+use Rattle.laws.proofs.Collect.{count_lt, count_most}
+use Rattle.laws.proofs.First.{first_at, first_none, first_least}
+use Rattle.laws.proofs.Foremost.{every_holds}
+use Rattle.std.proofs.lemmas.Bool.{and_parts, and_right, both_ways, not-false, ltb-true, false_from_ne_true, or_left, or_right, lt-leb, le-leb}
+use Rattle.laws.proofs.Some.{Some, alike, some_ext, some_from, some_has, count_fewer}
 use Rattle.growth.specs.Growth.{reached, steps}
-use Rattle.growth.specs.Search.{meets, Queue, Spread}
-use Rattle.growth.proofs.Queue.{queue_reached, room, spread_old}
+use Rattle.growth.specs.declared.rows.RowSet.{RowSet}
+use Rattle.growth.specs.Rows.{has}
+use Rattle.growth.specs.Search.{farthest}
+use Rattle.growth.proofs.Words.{some_row, no_row, same_rows}
 
--- a row's depth is a number of steps that lead to it; a row of the search's start has depth 0; and where the rows before head lead is reached
-pub record Searched (m : ℕ) (link : ℕ → ℕ → Bool) (from : ℕ → Bool) (depth queue : List ℕ) (head : ℕ) : Type 0 where
-  pub sound : (r : ℕ) → r < m → get_or depth r 0 < m → reached m link from (get_or depth r 0) r ≡ true
-  pub start : (r : ℕ) → r < m → from r ≡ true → get_or depth r 0 ≡ 0
-  pub done : (i r : ℕ) → i < head → r < m → link (get_or queue i 0) r ≡ true
-      → (get_or depth r 0 < m) × (get_or depth r 0 ≤ get_or depth (get_or queue i 0) 0 + 1)
-
--- a step more
-reached_next : (m : ℕ) (link : ℕ → ℕ → Bool) (from : ℕ → Bool) (n q r : ℕ) → q < m → reached m link from n q ≡ true → link q r ≡ true
-    → reached m link from (n + 1) r ≡ true
-unfolding reached
-reached_next m link from n q r h e l =
-    rw (add-one n)
-    (or_right (reached m link from n r) (some (λ s. reached m link from n s && link s r) m)
-    (some_has (λ s. reached m link from n s && link s r) m q h (rw (e, l))))
-
-module _ {m : ℕ} {link : ℕ → ℕ → Bool} {depth queue : List ℕ} where
-  -- at first the rows that are reached are those of depth 0
-  pub searched_first : ((r : ℕ) → r < m → get_or depth r 0 < m → get_or depth r 0 ≡ 0)
-      → Searched m link (λ q. eqb (get_or depth q 0) 0) depth queue 0
+module _ (m : ℕ) (link : ℕ → ℕ → Bool) (from : ℕ → Bool) where
+  -- a step more
+  reached_next : (n r : ℕ) → reached m link from (n + 1) r ≡ (reached m link from n r || some (λ q. reached m link from n q && link q r) m)
   unfolding reached
-  searched_first h =
-      record {
-        sound = λ r l k. rw (h r l k) (eq-eqb (get_or depth r 0) 0 (h r l k));
-        start = λ r l e. eqb-true (get_or depth r 0) 0 e;
-        done = λ i r l. absurd (omega arith);
-      }
+  reached_next n r = rw (add-one n)
 
--- the row at the head is worked off
-module _ {m : ℕ} {near : List Bool} {from : ℕ → Bool} {depth queue depth' queue' : List ℕ} {head tail tail' : ℕ}
-    (Q : Queue m depth queue head tail) (S : Searched m (meets near) from depth queue head) (waits : head < tail)
-    (W : Spread m near (get_or queue head 0) m depth queue tail depth' queue' tail') where
-  abbrev q : ℕ
-  q = get_or queue head 0
+  reached_more : (n r : ℕ) → reached m link from n r ≡ true → reached m link from (n + 1) r ≡ true
+  reached_more n r e = reached_next n r ∙ or_left (reached m link from n r) (some (λ q. reached m link from n q && link q r) m) e
 
-  -- a row is as deep as before, or just now reached
-  now_at : (r : ℕ) → r < m
-      → (get_or depth' r 0 ≡ get_or depth r 0)
-      ⊎ ((meets near q r ≡ true) × (m ≤ get_or depth r 0) × (get_or depth' r 0 ≡ get_or depth q 0 + 1))
-  now_at r h = by (meets near q r) (ℕ_discrete (get_or depth r 0) m) refl
-    where
-      by : (t : Bool) → Dec (get_or depth r 0 ≡ m) → meets near q r ≡ t
-          → (get_or depth' r 0 ≡ get_or depth r 0)
-          ⊎ ((meets near q r ≡ true) × (m ≤ get_or depth r 0) × (get_or depth' r 0 ≡ get_or depth q 0 + 1))
-      by true (yes e) t =
-          inr (t, omega arith, W.at r h ∙ (rw (lt-ltb r m h, t, eq-eqb (get_or depth r 0) m e)))
-      by true (no e) t = inl (W.at r h ∙ (rw (lt-ltb r m h, t, ne_eqb (get_or depth r 0) m e)))
-      by false d t = inl (W.at r h ∙ (rw (lt-ltb r m h, t)))
+  reached_later : (n d r : ℕ) → reached m link from n r ≡ true → reached m link from (n + d) r ≡ true
+  reached_later n zero r e = rw (add-zero n) e
+  reached_later n (suc d) r e = rw (add-suc n d, ← add-one (n + d)) (reached_more (n + d) r (reached_later n d r e))
 
-  sound_next : (r : ℕ) → r < m → get_or depth' r 0 < m → reached m (meets near) from (get_or depth' r 0) r ≡ true
-  sound_next r h k =
-      ⊎_elim
-      (λ e. rw e (S.sound r h (rw e at k)))
-      (λ w.
-      rw w.2
-      (reached_next m (meets near) from (get_or depth q 0) q r (Q.row head waits)
-      (S.sound q (Q.row head waits) (queue_reached Q head waits)) w.0))
-      (now_at r h)
+  reached_not : (n j r : ℕ) → j ≤ n → reached m link from n r ≡ false → reached m link from j r ≡ false
+  reached_not n j r h f =
+      let e : j + (n - j) ≡ n = omega arith in
+      false_from_ne_true (reached m link from j r) (λ t. both_ways (reached m link from n r) f (rw e at (reached_later j (n - j) r t)))
 
-  -- a row of the queue is where it was, as deep as it was
-  old : (i : ℕ) → i < tail → get_or depth' (get_or queue' i 0) 0 ≡ get_or depth (get_or queue i 0) 0
-  old i h = rw (W.kept i h) (spread_old W (get_or queue i 0) (Q.row i h) (queue_reached Q i h))
-
-  led : (r : ℕ) → r < m → meets near q r ≡ true → (get_or depth' r 0 < m) × (get_or depth' r 0 ≤ get_or depth q 0 + 1)
-  led r h l = by (ℕ_discrete (get_or depth r 0) m)
-    where
-      by : Dec (get_or depth r 0 ≡ m) → (get_or depth' r 0 < m) × (get_or depth' r 0 ≤ get_or depth q 0 + 1)
-      by (yes e) =
-          let d : get_or depth' r 0 ≡ get_or depth q 0 + 1 = W.at r h ∙ (rw (lt-ltb r m h, l, eq-eqb (get_or depth r 0) m e)) in
-          (omega (arith, Q.early head waits, room Q r h (omega arith)), omega arith)
-      by (no e) =
-          let k : get_or depth r 0 < m = omega (arith, Q.most r h) in
-          let L = Q.has r h k in
-          let d = spread_old W r h k in
-          let p = ap (λ x. get_or depth x 0) L.holds in
-          (omega arith, omega (arith, Q.close waits L.index L.inside))
-
-  done_next : (i r : ℕ) → Dec (i ≡ head) → i < head + 1 → r < m → meets near (get_or queue' i 0) r ≡ true
-      → (get_or depth' r 0 < m) × (get_or depth' r 0 ≤ get_or depth' (get_or queue' i 0) 0 + 1)
-  done_next i r (yes e) h k l =
-      rw (e, old head waits) (led r k (rw (e, W.kept head waits) at l))
-  done_next i r (no e) h k l =
-      let w : i < tail = omega arith in
-      let d = S.done i r (omega arith) k (rw (W.kept i w) at l) in
-      let s = spread_old W r k d.0 in
-      let o = old i w in
-      (omega (arith, d.0), omega (arith, d.1))
-
-  pub searched_next : 0 < m → Searched m (meets near) from depth' queue' (head + 1)
-  searched_next pos =
-      record {
-        sound = sound_next;
-        start = λ r h e. spread_old W r h (omega (arith, S.start r h e)) ∙ S.start r h e;
-        done = λ i r. done_next i r (ℕ_discrete i head);
-      }
-
--- at the end none waits, or every row is reached
-module _ {m : ℕ} {link : ℕ → ℕ → Bool} {from : ℕ → Bool} {depth queue : List ℕ} {head tail : ℕ} (Q : Queue m depth queue head tail)
-    (S : Searched m link from depth queue head) (over : (tail ≤ head) ⊎ (tail ≡ m)) (pos : 0 < m) where
-  -- where a row leads is reached
-  led_on : (q r : ℕ) → q < m → r < m → get_or depth q 0 < m → link q r ≡ true → (get_or depth r 0 < m) × (get_or depth r 0 ≤ get_or depth q 0 + 1)
-  led_on q r h k l e = by (dec_lt (Q.has q h l).index head)
-    where
-      by : Dec ((Q.has q h l).index < head) → (get_or depth r 0 < m) × (get_or depth r 0 ≤ get_or depth q 0 + 1)
-      by (yes w) =
-          rw (Q.has q h l).holds at (S.done (Q.has q h l).index r w k (rw (Q.has q h l).holds e))
-      by (no w) = ⊎_elim (λ u. absurd (omega (arith, (Q.has q h l).inside))) (λ u. all u (dec_lt (get_or depth r 0) m)) over
-        where
-          all : tail ≡ m → Dec (get_or depth r 0 < m) → (get_or depth r 0 < m) × (get_or depth r 0 ≤ get_or depth q 0 + 1)
-          all u (no f) = absurd (omega (arith, room Q r k (omega arith)))
-          all u (yes f) =
-              let L = Q.has q h l in
-              let M = Q.has r k f in
-              let a = ap (λ x. get_or depth x 0) L.holds in
-              let b = ap (λ x. get_or depth x 0) M.holds in
-              let c = Q.close (omega (arith, L.inside)) M.index M.inside in
-              let d = Q.rises head L.index (omega arith) L.inside in
-              (f, omega arith)
-
-  complete : (n r : ℕ) → r < m → reached m link from n r ≡ true → (get_or depth r 0 < m) × (get_or depth r 0 ≤ n)
-  unfolding reached
-  complete zero r h e = let z = S.start r h e in (omega arith, omega arith)
-  complete (suc n) r h e =
-      ⊎_elim (λ t. sooner (complete n r h t)) (λ t. later (complete n) t)
-      (or_cases (reached m link from n r) (some (λ q. reached m link from n q && link q r) m) e)
-    where
-      sooner : (get_or depth r 0 < m) × (get_or depth r 0 ≤ n) → (get_or depth r 0 < m) × (get_or depth r 0 ≤ suc n)
-      sooner w = (w.0, omega (arith, w.1))
-
-      later : ((s : ℕ) → s < m → reached m link from n s ≡ true → (get_or depth s 0 < m) × (get_or depth s 0 ≤ n))
-          → some (λ q. reached m link from n q && link q r) m ≡ true → (get_or depth r 0 < m) × (get_or depth r 0 ≤ suc n)
-      later f t =
-          let s = some_from (λ q. reached m link from n q && link q r) m t in
-          let b = and_parts (reached m link from n s.at) (link s.at r) s.has in
-          let d = f s.at s.below b.0 in
-          let w = led_on s.at r s.below h d.0 b.1 in
-          (w.0, omega (arith, w.1, d.1))
-
-  pub depth_is : (r : ℕ) → r < m → get_or depth r 0 ≡ steps m link from r
+  steps_le : (n r : ℕ) → n < m → reached m link from n r ≡ true → steps m link from r ≤ n
   unfolding steps
-  depth_is r h = by (dec_lt (get_or depth r 0) m)
+  steps_le n r h t = by (dec_lt n (first (λ n. reached m link from n r) m))
     where
-      by : Dec (get_or depth r 0 < m) → get_or depth r 0 ≡ first (λ n. reached m link from n r) m
-      by (yes l) =
-          sym (first_at (λ n. reached m link from n r) m (get_or depth r 0) l (S.sound r h l)
-          (λ j k. false_from_ne_true (reached m link from j r) (λ t. omega (arith, (complete j r h t).1))))
+      by : Dec (n < first (λ n. reached m link from n r) m) → first (λ n. reached m link from n r) m ≤ n
+      by (yes l) = absurd (both_ways (reached m link from n r) ((first_least (λ n. reached m link from n r) m).before n l) t)
+      by (no l) = omega arith
+
+  -- one step more than n
+  steps_next : (n r : ℕ) → n < m → reached m link from n r ≡ false → reached m link from (n + 1) r ≡ true → steps m link from r ≡ n + 1
+  unfolding steps
+  steps_next n r h f t = by (dec_lt (n + 1) m)
+    where
+      none : (j : ℕ) → j < n + 1 → reached m link from j r ≡ false
+      none j l = reached_not n j r (omega arith) f
+
+      by : Dec (n + 1 < m) → first (λ n. reached m link from n r) m ≡ n + 1
+      by (yes l) = first_at (λ n. reached m link from n r) m (n + 1) l t none
       by (no l) =
-          omega (
-            arith,
-            Q.most r h,
-            first_none (λ n. reached m link from n r) m (λ j k. false_from_ne_true (reached m link from j r) (λ t. l (complete j r h t).0)),
-          )
+          let e : m ≡ n + 1 = omega arith in
+          first_none (λ n. reached m link from n r) m (λ j k. none j (omega arith)) ∙ e
+
+  -- where a step leads to no other row, no more steps do
+  module _ (n : ℕ) (same : (r : ℕ) → r < m → reached m link from (n + 1) r ≡ reached m link from n r) where
+    stays : (d r : ℕ) → r < m → reached m link from (n + d) r ≡ reached m link from n r
+    stays zero r h = rw (add-zero n)
+    stays (suc d) r h =
+        rw (add-suc n d, ← add-one (n + d))
+        (reached_next (n + d) r
+        ∙ rw (
+          stays d r h,
+          some_ext (λ q. reached m link from (n + d) q && link q r) (λ q. reached m link from n q && link q r) m (λ q l. rw (stays d q l)),
+        )
+        (sym (reached_next n r) ∙ same r h))
+
+    steps_never : (r : ℕ) → r < m → reached m link from n r ≡ false → steps m link from r ≡ m
+    unfolding steps
+    steps_never r h f = first_none (λ n. reached m link from n r) m (λ j l. at j (dec_lt j n))
+      where
+        at : (j : ℕ) → Dec (j < n) → reached m link from j r ≡ false
+        at j (yes k) = reached_not n j r (omega arith) f
+        at j (no k) = let e : n + (j - n) ≡ j = omega arith in (rw e at (stays (j - n) r h)) ∙ f
+
+-- the steps that are made lead to none of the unreached rows, and one step more leads to the next
+pub record Searching (m : ℕ) (link : ℕ → ℕ → Bool) (from unreached next : ℕ → Bool) : Type 0 where
+  pub made : ℕ
+  pub few : made < m
+  pub room : made + count unreached m ≤ m
+  pub low : (r : ℕ) → unreached r ≡ true → r < m
+  pub within : (r : ℕ) → next r ≡ true → unreached r ≡ true
+  pub unreached_is : (r : ℕ) → r < m → unreached r ≡ not (reached m link from made r)
+  pub next_is : (r : ℕ) → r < m → next r ≡ (not (reached m link from made r) && reached m link from (made + 1) r)
+  pub free : (r : ℕ) → r < m → from r ≡ false → Some unreached m
+
+-- rows of the m alone are linked
+frontier_low : (m : ℕ) (link : ℕ → ℕ → Bool) (frontier : ℕ → Bool) (r : ℕ) → m ≤ 64 → ((q : ℕ) → frontier q ≡ true → q < m)
+    → some (λ q. frontier q && link q r) 64 ≡ some (λ q. frontier q && link q r) m
+frontier_low m link frontier r fits low =
+    alike (some (λ q. frontier q && link q r) 64) (some (λ q. frontier q && link q r) m)
+    (λ t.
+    let s = some_from (λ q. frontier q && link q r) 64 t in
+    some_has (λ q. frontier q && link q r) m s.at (low s.at (and_parts (frontier s.at) (link s.at r) s.has).0) s.has)
+    (λ t. let s = some_from (λ q. frontier q && link q r) m t in some_has (λ q. frontier q && link q r) 64 s.at (omega (arith, s.below)) s.has)
+
+not_or : (a b : Bool) → (not a && b) ≡ (not a && (a || b))
+not_or true b = refl
+not_or false b = refl
+
+not_both : (a b : Bool) → (a ≡ true → b ≡ true) → (not a && not (not a && b)) ≡ not b
+not_both true b h = rw (h refl)
+not_both false b h = refl
+
+not_more : (a b : Bool) → (a ≡ true → b ≡ true) → (not a && b) ≡ false → b ≡ a
+not_more true b h f = h refl
+not_more false b h f = f
+
+module _ {m : ℕ} {link : ℕ → ℕ → Bool} {from : ℕ → Bool} (fits : m ≤ 64) where
+  pub searching_first : {unreached next : ℕ → Bool} → 0 < m → ((r : ℕ) → from r ≡ true → r < m) → ((r : ℕ) → unreached r ≡ (ltb r m && not (from r)))
+      → ((r : ℕ) → next r ≡ (unreached r && some (λ q. from q && link q r) 64)) → Searching m link from unreached next
+  unfolding reached
+  searching_first {unreached} {next} pos low e f =
+      record {
+        made = 0;
+        few = pos;
+        room = omega (arith, count_most unreached m);
+        low = λ r t. ltb-true r m (and_parts (ltb r m) (not (from r)) (sym (e r) ∙ t)).0;
+        within = λ r t. (and_parts (unreached r) (some (λ q. from q && link q r) 64) (sym (f r) ∙ t)).0;
+        unreached_is = at;
+        next_is = λ r h. f r ∙ rw (at r h, frontier_low m link from r fits low) (not_or (from r) (some (λ q. from q && link q r) m));
+        free = λ r h n. record { at = r; below = h; has = at r h ∙ rw n };
+      }
+    where
+      at : (r : ℕ) → r < m → unreached r ≡ not (from r)
+      at r h = e r ∙ rw (lt-ltb r m h)
+
+  module _ {unreached next : ℕ → Bool} (S : Searching m link from unreached next) where
+    abbrev now : ℕ → Bool
+    now r = reached m link from S.made r
+
+    abbrev then : ℕ → Bool
+    then r = reached m link from (S.made + 1) r
+
+    more : (r : ℕ) → now r ≡ true → then r ≡ true
+    more r = reached_more m link from S.made r
+
+    next_low : (q : ℕ) → next q ≡ true → q < m
+    next_low q t = S.low q (S.within q t)
+
+    module _ {unreached' next' : ℕ → Bool} (e : (r : ℕ) → unreached' r ≡ (unreached r && not (next r)))
+        (f : (r : ℕ) → next' r ≡ (unreached' r && some (λ q. next q && link q r) 64)) where
+      left : (r : ℕ) → r < m → unreached' r ≡ not (then r)
+      left r h = e r ∙ rw (S.unreached_is r h, S.next_is r h) (not_both (now r) (then r) (more r))
+
+      -- what is reached from a row reached before was reached by now
+      from_next : (r : ℕ) → r < m → then r ≡ false → some (λ q. next q && link q r) m ≡ some (λ q. then q && link q r) m
+      from_next r h n =
+          alike (some (λ q. next q && link q r) m) (some (λ q. then q && link q r) m)
+          (λ t.
+          let s = some_from (λ q. next q && link q r) m t in
+          let b = and_parts (next s.at) (link s.at r) s.has in
+          let c = and_parts (not (now s.at)) (then s.at) (sym (S.next_is s.at s.below) ∙ b.0) in
+          some_has (λ q. then q && link q r) m s.at s.below (rw (c.1, b.1)))
+          (λ t.
+          let s = some_from (λ q. then q && link q r) m t in
+          let b = and_parts (then s.at) (link s.at r) s.has in
+          some_has (λ q. next q && link q r) m s.at s.below (rw (S.next_is s.at s.below, b.0, b.1, before s.at s.below b.1)))
+        where
+          before : (q : ℕ) → q < m → link q r ≡ true → now q ≡ false
+          before q l u =
+              false_from_ne_true (now q)
+              (λ t.
+              both_ways (then r) n
+              (reached_next m link from S.made r
+              ∙ or_right (now r) (some (λ q. now q && link q r) m) (some_has (λ q. now q && link q r) m q l (rw (t, u)))))
+
+      on : (r : ℕ) → r < m → next' r ≡ (not (then r) && reached m link from (S.made + 1 + 1) r)
+      on r h = f r ∙ rw (frontier_low m link next r fits next_low, left r h, reached_next m link from (S.made + 1) r) (by (then r) refl)
+        where
+          by : (t : Bool) → then r ≡ t
+              → (not (then r) && some (λ q. next q && link q r) m) ≡ (not (then r) && (then r || some (λ q. then q && link q r) m))
+          by true t = rw t
+          by false t = rw (t, from_next r h t)
+
+      pub searching_less : Some next m → count unreached' m + 1 ≤ count unreached m
+      searching_less s =
+          count_fewer unreached' unreached m s.at s.below (e s.at ∙ rw s.has (and_right (unreached s.at) false refl)) (S.within s.at s.has)
+          (λ k l t. (and_parts (unreached k) (not (next k)) (sym (e k) ∙ t)).0)
+
+      pub searching_next : Some next m → Some unreached' m → Searching m link from unreached' next'
+      searching_next s t =
+          record {
+            made = S.made + 1;
+            few = omega (arith, S.room, searching_less s, count_lt unreached' m t.at t.below t.has);
+            room = omega (arith, S.room, searching_less s);
+            low = λ r u. S.low r (and_parts (unreached r) (not (next r)) (sym (e r) ∙ u)).0;
+            within = λ r u. (and_parts (unreached' r) (some (λ q. next q && link q r) 64) (sym (f r) ∙ u)).0;
+            unreached_is = left;
+            next_is = on;
+            free = λ r h n. t;
+          }
+
+    -- the unreached rows are d steps away, and no others so many
+    module _ (d : ℕ) (over : S.made < d) (far : (r : ℕ) → r < m → now r ≡ false → steps m link from r ≡ d) where
+      near : (r : ℕ) → r < m → now r ≡ true → steps m link from r ≤ S.made
+      near r h t = steps_le m link from S.made r S.few t
+
+      most : (r : ℕ) → r < m → steps m link from r ≤ d
+      most r h = by (now r) refl
+        where
+          by : (t : Bool) → now r ≡ t → steps m link from r ≤ d
+          by true t = omega (arith, near r h t)
+          by false t = omega (arith, far r h t)
+
+      apart : (r : ℕ) → unreached r ≡ (ltb r m && farthest m link from r)
+      unfolding farthest reached
+      apart r = by (dec_lt r m) (unreached r) refl
+        where
+          none : (r : ℕ) → r < m → unreached r ≡ true → now r ≡ false
+          none r h t = false_from_ne_true (now r) (λ u. true≢false (sym t ∙ S.unreached_is r h ∙ rw u))
+
+          begin : (r : ℕ) → r < m → unreached r ≡ true → from r ≡ false
+          begin r h t = reached_not m link from S.made 0 r (omega arith) (none r h t)
+
+          by : Dec (r < m) → (t : Bool) → unreached r ≡ t
+              → unreached r ≡ (ltb r m && (not (from r) && every (λ q. from q || leb (steps m link from q) (steps m link from r)) m))
+          by (no h) true t = absurd (h (S.low r t))
+          by (no h) false t = rw (t, le-ltb r m (omega arith))
+          by (yes h) true t =
+              rw (
+                t,
+                lt-ltb r m h,
+                begin r h t,
+                every_holds (λ q. from q || leb (steps m link from q) (steps m link from r)) m
+                    (λ q l. or_right (from q) _ (le-leb (steps m link from q) (steps m link from r) (omega (arith, most q l, far r h (none r h t))))),
+              )
+          by (yes h) false t = rw (t, lt-ltb r m h) (at (from r) refl)
+            where
+              at : (u : Bool) → from r ≡ u → false ≡ (not (from r) && every (λ q. from q || leb (steps m link from q) (steps m link from r)) m)
+              at true u = rw u
+              at false u =
+                  let s = S.free r h u in
+                  let n : now r ≡ true = not-false (now r) (sym (S.unreached_is r h) ∙ t) in
+                  rw u
+                  (sym
+                  (every_fails (λ q. from q || leb (steps m link from q) (steps m link from r)) m s.at s.below
+                  (rw (
+                    begin s.at s.below s.has,
+                    lt-leb (steps m link from s.at) (steps m link from r) (omega (arith, near r h n, far s.at s.below (none s.at s.below s.has))),
+                  ))))
+
+    pub searching_end : ((r : ℕ) → next r ≡ false) ⊎ ((r : ℕ) → unreached r ≡ true → next r ≡ true) → (r : ℕ)
+        → unreached r ≡ (ltb r m && farthest m link from r)
+    searching_end (inl none) =
+        apart m S.few (steps_never m link from S.made (λ r h. not_more (now r) (then r) (more r) (sym (S.next_is r h) ∙ none r)))
+    searching_end (inr all) =
+        apart (S.made + 1) (omega arith)
+        (λ r h n.
+        steps_next m link from S.made r S.few n
+        (and_parts (not (now r)) (then r) (sym (S.next_is r h) ∙ all r (S.unreached_is r h ∙ rw n))).1)
+
+-- the same of sets of rows
+module _ {m : ℕ} {link : ℕ → ℕ → Bool} {from : ℕ → Bool} (unreached next : RowSet) (S : Searching m link from (has unreached) (has next)) where
+  pub next_some : next.bits < 2 ^ 64 → (next.bits ≡ 0 → ⊥) → Some (has next) m
+  next_some h n = let s = some_row next h n in record { at = s.at; below = S.low s.at (S.within s.at s.has); has = s.has }
+
+  -- where the next are not all, some are left
+  pub left_some : {left : RowSet} → left.bits < 2 ^ 64 → ((r : ℕ) → has left r ≡ (has unreached r && not (has next r)))
+      → (next.bits ≡ unreached.bits → ⊥) → Some (has left) m
+  left_some {left} h e n = let s = some_row left h some in
+      record { at = s.at; below = S.low s.at (and_parts (has unreached s.at) (not (has next s.at)) (sym (e s.at) ∙ s.has)).0; has = s.has }
+    where
+      some : left.bits ≡ 0 → ⊥
+      some z =
+          n
+          (same_rows next unreached
+          (λ r. alike (has next r) (has unreached r) (S.within r) (λ t. not-false (has next r) (sym (rw t at (e r)) ∙ no_row left z r))))

@@ -1,12 +1,14 @@
--- What the functions of growth say of their lists: which rows share a column, as a square of 64 rows of 64 tests; the queue of a
--- search; and the choice of a row. Assumes nothing.
-use Rattle.std.specs.Prelude.{◌≡◌, Bool, true, false, not, cond, ◌&&◌, ◌||◌, List, Option, Some, None, ℕ, ◌+◌, ◌*◌, ◌/◌, ◌%◌, ◌-◌, ◌<◌, ◌≤◌, ltb, eqb, length, get_or}
-use Rattle.laws.specs.Range.{some, count, foremost}
+-- What the functions of growth say of their lists: which rows share a column, as a set of rows for each row; and the choice of a row.
+-- Assumes nothing.
+use Rattle.std.specs.Prelude.{Bool, true, not, cond, ◌&&◌, ◌||◌, List, Option, Some, None, ℕ, ◌+◌, ◌*◌, ◌/◌, ◌%◌, ◌-◌, ltb, leb, eqb, get_or}
+use Rattle.laws.specs.Range.{every, some, foremost}
+use Rattle.growth.specs.declared.rows.RowSet.{RowSet}
 use Rattle.growth.specs.Growth.{steps, ahead_by}
+use Rattle.growth.specs.Rows.{has}
 
 -- rows q and r share a column
-abbrev pub meets : List Bool → ℕ → ℕ → Bool
-meets near q r = get_or near (64 * q + r) false
+abbrev pub meets : List RowSet → ℕ → ℕ → Bool
+meets near q r = has (get_or near q (record { bits = 0 })) r
 
 -- the rows of parity column 0; and two rows share a parity column, in closed form
 unfoldable pub ends : ℕ → ℕ → Bool
@@ -31,39 +33,14 @@ paired a b q s = eqb q a && eqb s b || eqb q b && eqb s a
 unfoldable pub joined : List ℕ → ℕ → ℕ → ℕ → ℕ → ℕ → Bool
 joined rows p n x q s = some (λ e. paired (get_or rows (3 * (p / 3) + e) 0) x q s) n
 
--- a place of the queue before its end
-pub record Listed (queue : List ℕ) (tail r : ℕ) : Type 0 where
-  pub index : ℕ
-  pub inside : index < tail
-  pub holds : get_or queue index 0 ≡ r
+-- row q has fewer edges than row r
+abbrev pub fewer : (ℕ → ℕ) → ℕ → ℕ → Bool
+fewer edges q r = ltb (edges q) (edges r)
 
--- The queue of a search: the rows that are reached, those whose depth is below m, in the order of their depths. Those from head on
--- wait, and are at most one step apart.
-pub record Queue (m : ℕ) (depth queue : List ℕ) (head tail : ℕ) : Type 0 where
-  pub deep : length depth ≡ 64
-  pub long : length queue ≡ 65
-  pub most : (r : ℕ) → r < m → get_or depth r 0 ≤ m
-  pub all : tail ≡ count (λ r. ltb (get_or depth r 0) m) m
-  pub row : (j : ℕ) → j < tail → get_or queue j 0 < m
-  pub early : (j : ℕ) → j < tail → get_or depth (get_or queue j 0) 0 ≤ j
-  pub rises : (i j : ℕ) → i ≤ j → j < tail → get_or depth (get_or queue i 0) 0 ≤ get_or depth (get_or queue j 0) 0
-  pub close : head < tail → (j : ℕ) → j < tail → get_or depth (get_or queue j 0) 0 ≤ get_or depth (get_or queue head 0) 0 + 1
-  pub has : (r : ℕ) → r < m → get_or depth r 0 < m → Listed queue tail r
-
--- depth' is depth with the rows below x that share a column with row q and were not reached one deeper than q; the queue is only
--- added to
-pub record Spread (m : ℕ) (near : List Bool) (q x : ℕ) (depth queue : List ℕ) (tail : ℕ) (depth' queue' : List ℕ) (tail' : ℕ) : Type 0 where
-  pub at : (r : ℕ) → r < m
-      → get_or depth' r 0 ≡ cond (ltb r x && (meets near q r && eqb (get_or depth r 0) m)) (get_or depth q 0 + 1) (get_or depth r 0)
-  pub grows : tail ≤ tail'
-  pub kept : (j : ℕ) → j < tail → get_or queue' j 0 ≡ get_or queue j 0
-
--- depth' is depth with 0 at the first n rows of place p's column, which stand in front of queue'
-pub record Begun (rows : List ℕ) (p n : ℕ) (depth depth' queue' : List ℕ) : Type 0 where
-  pub deep : length depth' ≡ 64
-  pub long : length queue' ≡ 65
-  pub at : (r : ℕ) → get_or depth' r 0 ≡ cond (some (λ e. eqb (get_or rows (3 * (p / 3) + e) 0) r) n) 0 (get_or depth r 0)
-  pub front : (j : ℕ) → j < n → get_or queue' j 0 ≡ get_or rows (3 * (p / 3) + j) 0
+-- of m rows, with their links: row r is not one of the rows `from`, and of the others none is more steps away from these
+unfoldable pub farthest : ℕ → (ℕ → ℕ → Bool) → (ℕ → Bool) → ℕ → Bool
+farthest m link from r =
+    not (from r) && every (λ q. from q || leb (steps m link from q) (steps m link from r)) m
 
 -- row r goes before the best one so far, or there is none
 abbrev pub leads_over : (ℕ → ℕ → Bool) → ℕ → Option ℕ → Bool
@@ -71,6 +48,6 @@ leads_over ahead r None = true
 leads_over ahead r (Some q) = ahead r q
 
 -- the row to choose, by those lists
-unfoldable pub chosen : ℕ → List Bool → List ℕ → List ℕ → ℕ → ℕ
+unfoldable pub chosen : ℕ → List RowSet → List ℕ → List ℕ → ℕ → ℕ
 chosen m near degree rows p =
     foremost (λ r. not (begun rows p r)) (ahead_by (steps m (meets near) (begun rows p)) (λ r. get_or degree r 0)) m

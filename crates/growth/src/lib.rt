@@ -4,7 +4,7 @@
 mod base_rows;
 mod choice;
 mod links;
-mod row_queue;
+mod rows;
 mod search;
 mod shared;
 

@@ -6,7 +6,8 @@ ghost use Rattle.growth.specs.Search.{meets, beside, parity_edges, joined, chose
 
 use crate::base_rows::BaseRows;
 use crate::choice::pick;
-use crate::search::Search;
+use crate::rows::RowSet;
+use crate::search::{farthest, rows_before};
 use crate::shared::Shared;
 
 // Not `Copy`, as it is large.
@@ -25,17 +26,17 @@ impl Links {
         ensures shared { (q r : ℕ) → q < base.m_b → r < base.m_b → meets result.shared.near q r ≡ beside base.m_b q r }
         ensures edges { (r : ℕ) → r < base.m_b → get_or result.degree r 0 ≡ parity_edges base.m_b r }
     {
-        let mut links = Links {
+        let mut near = [RowSet::empty(); 64];
+        let mut degree = [0; 64];
+        for q in 0..base.m_b {
+            near[q] = base.beside(q);
+            degree[q] = base.parity_edges(q);
+        }
+        Links {
             base,
-            shared: Shared {
-                near: [false; 4096],
-            },
-            degree: [0; 64],
-        };
-        let shared = &mut links.shared;
-        base.fill_near(&mut shared.near);
-        base.fill_degree(&mut links.degree);
-        links
+            shared: Shared { near },
+            degree,
+        }
     }
 
     // The row for place p.
@@ -43,10 +44,8 @@ impl Links {
         requires { (p ≤ length rows.now) × ((j : ℕ) → j < p → faulty self.now.base.m_b rows.now j ≡ false) }
         ensures { result ≡ below self.now.base.m_b (chosen self.now.base.m_b self.now.shared.near self.now.degree rows.now p) }
     {
-        let mut search = Search::new(self.base);
-        search.begin(rows, p);
-        search.run(&self.shared);
-        pick(self.base.m_b, &search.depth, &self.degree)
+        let taken = rows_before(rows, p);
+        pick(farthest(self.base, &self.shared, taken), &self.degree)
     }
 
     // Notes the row r of place p: it shares a column with the rows of that column so far, and has an edge more.

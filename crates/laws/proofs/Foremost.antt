@@ -140,7 +140,7 @@ by_key key =
     }
 
 -- larger first keys are ahead, and of equal ones smaller second keys
-abbrev over : ℕ → ℕ → ℕ → ℕ → Bool
+abbrev pub over : ℕ → ℕ → ℕ → ℕ → Bool
 over x u y v = ltb y x || eqb x y && ltb u v
 
 above : (x u y v : ℕ) → y < x → over x u y v ≡ true
@@ -152,7 +152,7 @@ level x u y v h = rw (le-ltb y x (omega arith), eq-eqb x y h)
 under : (x u y v : ℕ) → x < y → over x u y v ≡ false
 under x u y v h = rw (le-ltb y x (omega arith), ne_eqb x y (omega arith))
 
-over_true : (x u y v : ℕ) → over x u y v ≡ true → (y ≤ x) × (x ≤ y → u < v)
+pub over_true : (x u y v : ℕ) → over x u y v ≡ true → (y ≤ x) × (x ≤ y → u < v)
 over_true x u y v e = by (dec_lt y x) (ℕ_discrete x y)
   where
     by : Dec (y < x) → Dec (x ≡ y) → (y ≤ x) × (x ≤ y → u < v)
@@ -160,7 +160,7 @@ over_true x u y v e = by (dec_lt y x) (ℕ_discrete x y)
     by (no h) (yes q) = (omega arith, λ k. ltb-true u v (sym (level x u y v q) ∙ e))
     by (no h) (no q) = absurd (both_ways (over x u y v) (under x u y v (omega arith)) e)
 
-over_false : (x u y v : ℕ) → over x u y v ≡ false → (x ≤ y) × (y ≤ x → v ≤ u)
+pub over_false : (x u y v : ℕ) → over x u y v ≡ false → (x ≤ y) × (y ≤ x → v ≤ u)
 over_false x u y v e = by (dec_lt y x) (ℕ_discrete x y)
   where
     by : Dec (y < x) → Dec (x ≡ y) → (x ≤ y) × (y ≤ x → v ≤ u)

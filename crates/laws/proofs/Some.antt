@@ -1,16 +1,15 @@
 -- Tests that are true together; the laws of `some` and `count` over a range. Assumes nothing.
-use mathlib.Core.Path.{◌≡◌, refl, sym}
+use mathlib.Core.Path.{◌≡◌, refl, sym, ◌∙◌}
 use mathlib.Core.Logic.{⊎_elim}
 use mathlib.Core.Bool.{Bool, true, false, cond, ◌||◌, or-false, true≢false}
-use Prim.Native.Nat.{ℕ, zero, suc, ◌+◌, ◌<◌}
+use Prim.Native.Nat.{ℕ, zero, suc, ◌+◌, ◌<◌, ◌≤◌}
 use native.Mathlib.Omega.{arith}
 use native.Mathlib.Decide.{ℕ_discrete}
 use lib.Dec.{ltb, eqb}
 use borrow.Author.Tests.{lt-ltb, le-ltb, ltb-true, eq-eqb, ne_eqb}
-use Rattle.std.proofs.lemmas.Bool.{or_cases, or_left, or_parts, or_right}
+use Rattle.std.proofs.lemmas.Bool.{both_ways, or_cases, or_left, or_parts, or_right}
 use Rattle.laws.specs.Range.{some, first, count}
 use Rattle.laws.proofs.Range.{count_ext}
-use Rattle.laws.proofs.Collect.{count_most}
 
 -- tests that are true together are the same
 pub alike : (a b : Bool) → (a ≡ true → b ≡ true) → (b ≡ true → a ≡ true) → a ≡ b
@@ -96,12 +95,29 @@ count_one p q (suc n) a h f t e = by (ℕ_discrete a n) (count_one p q n a)
     by (no w) earlier =
         rw (e n (omega arith) (λ x. w (sym x))) (same (p n) (earlier (omega arith) f t (λ k l. e k (omega arith))))
 
--- a number that is not counted leaves room
-pub count_room : (p : ℕ → Bool) (n a : ℕ) → a < n → p a ≡ false → count p n < n
-count_room p n a h f =
-    let q : ℕ → Bool = λ k. p k || eqb k a in
+-- where q holds of each number that p holds of, no more are counted by p
+pub count_within : (p q : ℕ → Bool) (n : ℕ) → ((k : ℕ) → k < n → p k ≡ true → q k ≡ true) → count p n ≤ count q n
+unfolding count
+count_within p q zero h = omega arith
+count_within p q (suc n) h = by (count_within p q n (λ k l. h k (omega arith))) (p n) (q n) refl refl
+  where
+    by : count p n ≤ count q n → (s t : Bool) → p n ≡ s → q n ≡ t → cond (p n) (count p n + 1) (count p n) ≤ cond (q n) (count q n + 1) (count q n)
+    by rest true true e f = rw (e, f) (omega (arith, rest))
+    by rest true false e f = absurd (both_ways (q n) f (h n (omega arith) e))
+    by rest false true e f = rw (e, f) (omega (arith, rest))
+    by rest false false e f = rw (e, f) rest
+
+-- and fewer, where q holds of one that p does not hold of
+pub count_fewer : (p q : ℕ → Bool) (n a : ℕ) → a < n → p a ≡ false → q a ≡ true → ((k : ℕ) → k < n → p k ≡ true → q k ≡ true)
+    → count p n + 1 ≤ count q n
+count_fewer p q n a h f t e =
+    let p' : ℕ → Bool = λ k. p k || eqb k a in
     omega (
       arith,
-      count_one p q n a h f (or_right (p a) (eqb a a) (eq-eqb a a refl)) (λ k l w. rw (ne_eqb k a w) (or-false (p k))),
-      count_most q n,
+      count_one p p' n a h f (or_right (p a) (eqb a a) (eq-eqb a a refl)) (λ k l w. rw (ne_eqb k a w) (or-false (p k))),
+      count_within p' q n (λ k l u. by k l u (ℕ_discrete k a)),
     )
+  where
+    by : (k : ℕ) → k < n → (p k || eqb k a) ≡ true → Dec (k ≡ a) → q k ≡ true
+    by k l u (yes w) = rw w t
+    by k l u (no w) = e k l (sym (or-false (p k)) ∙ (rw (ne_eqb k a w) at u))

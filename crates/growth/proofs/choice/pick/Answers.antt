@@ -1,19 +1,30 @@
--- `pick` meets its contract. The invariant: the best of the rows below r is kept. Assumes nothing.
-use Rattle.std.proofs.Common.{◌≡◌, sym, ◌∙◌, get_or, arith}
-use Rattle.laws.proofs.Foremost.{by_keys}
-use Rattle.growth.proofs.Kept.{best_take, best_keep, best_end}
+-- `pick` meets its contract. The invariant: of the rows that were taken up the best is kept. Assumes nothing.
+use Rattle.std.proofs.Common.{ℕ, sym, ◌∙◌, get_or}
+use Rattle.laws.proofs.Foremost.{by_key}
+use Rattle.growth.specs.Rows.{has}
+use Rattle.growth.specs.Search.{fewer}
+use Rattle.growth.proofs.Kept.{picking_first, picking_low, picking_take, picking_keep, picking_end}
 use Rattle.growth.proofs.choice.pick.Goals as goal
-use Rattle.growth.proofs.choice.pick.Goals.{then-takes_over, else-takes_over}
+
+pub loop-r-init : goal.loop-r-init
+loop-r-init c = picking_first (has c.args.rows) (fewer (λ q. get_or c.args.degree.now q 0))
+
+pub takes_over-requires-clause-best : goal.takes_over-requires-clause-best
+takes_over-requires-clause-best c =
+    rw c.requires (picking_low (has c.args.rows) (fewer (λ q. get_or c.args.degree.now q 0)) c.loop-r.best c.loop-r.invariant)
+
+pub loop-r-preserved-then-takes_over : goal.loop-r-preserved-then-takes_over
+loop-r-preserved-then-takes_over c =
+    let edges : ℕ → ℕ = λ q. get_or c.args.degree.now q 0 in
+    let L = c.in-Some.ensures in
+    picking_take (has c.args.rows) (fewer edges) c.loop-r.invariant c.in-Some.r L.low L.had L.first L.others (by_key edges)
+    (sym c.takes_over.ensures ∙ c.if-takes_over.true)
 
 pub loop-r-preserved : goal.loop-r-preserved
 loop-r-preserved c =
-    let order = by_keys (λ q. get_or c.args.depth.now q 0) (λ q. get_or c.args.degree.now q 0) in
-    elim c.if-takes_over.branch [
-      | then-takes_over w ↦ rw w.best-is (best_take _ _ c.loop-r.r c.loop-r.best order c.loop-r.invariant (sym c.takes_over.ensures ∙ w.if-takes_over.true))
-      | else-takes_over w ↦ rw w.best-is (best_keep _ _ c.loop-r.r c.loop-r.best c.loop-r.invariant (sym c.takes_over.ensures ∙ w.if-takes_over.false))
-    ]
+    let L = c.in-Some.ensures in
+    picking_keep (has c.args.rows) (fewer (λ q. get_or c.args.degree.now q 0)) c.loop-r.invariant c.in-Some.r L.low L.had L.first L.others
+    (sym c.takes_over.ensures ∙ c.if-takes_over.false)
 
 pub returns : goal.returns
-returns c =
-    let e : c.loop-r.r ≡ c.args.m_b = omega arith in
-    best_end _ _ c.args.m_b c.loop-r.best (rw e at c.loop-r.invariant)
+returns c = picking_end (has c.args.rows) (fewer (λ q. get_or c.args.degree.now q 0)) c.loop-r.invariant c.in_default.ensures
