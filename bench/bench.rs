@@ -4,6 +4,9 @@
 //! A sample goes through all blocks of a code, again and again for some 2 ms; ours and theirs take turns, and the best of
 //! SAMPLES counts. Buffers are not cleared between runs: our work memory and outputs are those of the run before, while the
 //! Rust fetches its own anew in each call, which is part of its time.
+//!
+//! How fast a loop is goes also by where the linker puts it, by up to 14 in 100, ours and theirs. So `run` links the program at
+//! several places, and of all of them the best counts: a run takes up the times that the one before left in a file.
 mod random;
 
 use fuyegbo::{graph, Decode};
@@ -12,14 +15,19 @@ use std::fmt::Write;
 use std::hint::black_box;
 use std::time::Instant;
 
-const CODES: [(usize, usize); 11] = [
+/// The lifts are 324, 17, 8, 6, 4, 3, 2 and 1: each way that a pass has for short lifts is watched.
+const CODES: [(usize, usize); 15] = [
     (0, 19440),
     (2, 19440),
     (5, 19440),
     (0, 1000),
     (2, 1000),
     (5, 1000),
+    (2, 480),
+    (2, 350),
     (2, 200),
+    (2, 150),
+    (2, 100),
     (0, 60),
     (5, 60),
     (5, 10),
@@ -44,6 +52,40 @@ const SAMPLES: usize = 15;
 const BITS: usize = 40_000;
 /// How many draws a block has to take the whole limit, before the slowest of them is taken.
 const DRAWS: usize = 200;
+
+/// Nanoseconds in the order in which they are measured: of the run before, where there was one, and the least so far.
+struct Times {
+    before: Vec<f64>,
+    least: Vec<f64>,
+}
+
+impl Times {
+    /// Of a file with a number a line. It is empty for the first run, and else has as many as this run leaves.
+    fn read(path: &str) -> Times {
+        let text = std::fs::read_to_string(path).expect(path);
+        Times {
+            before: text.lines().map(|l| l.parse().expect(path)).collect(),
+            least: Vec::new(),
+        }
+    }
+
+    fn write(&self, path: &str) {
+        assert!(self.before.is_empty() || self.before.len() == self.least.len());
+        let text: String = self.least.iter().map(|ns| format!("{ns}\n")).collect();
+        std::fs::write(path, text).expect(path);
+    }
+
+    /// The less of a time and of that which the run before left in its place.
+    fn least(&mut self, ns: f64) -> f64 {
+        let before = self.before.get(self.least.len()).copied().unwrap_or(ns);
+        self.least.push(ns.min(before));
+        ns.min(before)
+    }
+
+    fn both(&mut self, (ours, theirs): (f64, f64)) -> (f64, f64) {
+        (self.least(ours), self.least(theirs))
+    }
+}
 
 /// The nanoseconds of one call of f, the best of some samples. `other` runs in between.
 fn best(mut f: impl FnMut(), mut other: impl FnMut()) -> (f64, f64) {
@@ -210,7 +252,7 @@ fn step_times(b: &Blocks, work: &mut [f32], out: &mut [u8]) -> (f64, f64, f64) {
     (start, both - start, read)
 }
 
-fn codes(text: &mut String) {
+fn codes(times: &mut Times, text: &mut String) {
     writeln!(text, "decode: ns for each edge and iteration, ours and theirs; then theirs over ours for a decode on a ready code,").unwrap();
     writeln!(text, "for the one call against new and decode, and for an encoding").unwrap();
     writeln!(text, "rate  n_tx   z  iterations     ours  theirs   decode  one call  encode").unwrap();
@@ -218,9 +260,9 @@ fn codes(text: &mut String) {
         let b = Blocks::new(rate, n_tx);
         let mut work = vec![0f32; b.ours.work_needed().unwrap()];
         let mut out = vec![0u8; n_tx];
-        let decode = decode_times(&b, &mut work, &mut out);
-        let call = call_times(&b, &mut work, &mut out);
-        let encode = encode_times(&b, &mut out);
+        let decode = times.both(decode_times(&b, &mut work, &mut out));
+        let call = times.both(call_times(&b, &mut work, &mut out));
+        let encode = times.both(encode_times(&b, &mut out));
         let all = (b.edges * b.iterations) as f64;
         writeln!(
             text,
@@ -237,7 +279,7 @@ fn codes(text: &mut String) {
     }
 }
 
-fn steps(text: &mut String) {
+fn steps(times: &mut Times, text: &mut String) {
     writeln!(text, "\nours alone, microseconds: start, a grant of 1, a read that has not converged").unwrap();
     writeln!(text, "rate  n_tx    start  grant 1     read").unwrap();
     for (rate, n_tx) in CODES {
@@ -248,28 +290,28 @@ fn steps(text: &mut String) {
         writeln!(
             text,
             "{rate:4} {n_tx:5} {:8.2} {:8.2} {:8.2}",
-            start / 1e3,
-            grant / 1e3,
-            read / 1e3
+            times.least(start) / 1e3,
+            times.least(grant) / 1e3,
+            times.least(read) / 1e3
         )
         .unwrap();
     }
 }
 
-fn graphs(text: &mut String) {
+fn graphs(times: &mut Times, text: &mut String) {
     writeln!(text, "\nbuild, microseconds, and theirs over ours\nn_b  percent     ours   theirs    build").unwrap();
     for (n_b, percent) in GRAPHS {
         let n = 3 * graph::information_columns(n_b, percent).unwrap();
         let (mut rows, mut shifts) = (vec![0u8; n], vec![0u16; n]);
-        let (ours, theirs) = best(
+        let (ours, theirs) = times.both(best(
             || graph::build(black_box(n_b), percent, 143, &mut rows, &mut shifts).unwrap(),
             || {
                 black_box(crate::build(black_box(n_b), percent, 143));
             },
-        );
+        ));
         writeln!(
             text,
-            "{n_b:3} {percent:8} {:8.1} {:8.1} {:8.2}",
+            "{n_b:3} {percent:8} {:8.2} {:8.2} {:8.2}",
             ours / 1e3,
             theirs / 1e3,
             theirs / ours
@@ -280,9 +322,14 @@ fn graphs(text: &mut String) {
 
 /// xtask prints this for its task `vectors`.
 pub fn report() -> String {
-    let mut text = format!("buffers are not cleared between runs; best of {SAMPLES} samples, in turns; at most {LIMIT} iterations\n\n");
-    codes(&mut text);
-    steps(&mut text);
-    graphs(&mut text);
+    let path = std::env::var("BENCH_TIMES").expect("BENCH_TIMES, the file of times, is named by bench/run");
+    let mut times = Times::read(&path);
+    let mut text = format!(
+        "buffers are not cleared between runs; best of {SAMPLES} samples, in turns, at each place of the code; at most {LIMIT} iterations\n\n"
+    );
+    codes(&mut times, &mut text);
+    steps(&mut times, &mut text);
+    graphs(&mut times, &mut text);
+    times.write(&path);
     text
 }
