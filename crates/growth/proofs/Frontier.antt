@@ -14,7 +14,8 @@ use Rattle.growth.specs.declared.rows.RowSet.{RowSet}
 use Rattle.growth.specs.Rows.{has, Lowest}
 use Rattle.growth.specs.Search.{meets}
 
--- what is gathered to is gathered to from the frontier, and so is all that shares a column with a row of it that is not left
+-- a row that is gathered shares a column with a row of the frontier; and each row that shares one with a row of the frontier that is
+-- not left is gathered
 pub record Gathering (near : List RowSet) (frontier left gathered : RowSet) : Type 0 where
   pub sound : (r : ℕ) → has gathered r ≡ true → some (λ q. has frontier q && meets near q r) 64 ≡ true
   pub done : (q r : ℕ) → has frontier q ≡ true → has left q ≡ false → meets near q r ≡ true → has gathered r ≡ true

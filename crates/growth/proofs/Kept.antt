@@ -49,21 +49,21 @@ module _ (p : ℕ → Bool) (ahead : ℕ → ℕ → Bool) where
       rw (add-suc n d, ← add-one (n + d))
       (best_skip (n + d) best (best_past n d best B (λ s h l. f s h (omega arith))) (f (n + d) (omega arith) (omega arith)))
 
-  -- the numbers that wait are those with p from the bound on; of those below it the best is kept
-  pub record Picking (waits : ℕ → Bool) (best : Option ℕ) : Type 0 where
+  -- the numbers left are those with p from the bound on; of those below it the best is kept
+  pub record Picking (left : ℕ → Bool) (best : Option ℕ) : Type 0 where
     pub bound : ℕ
     pub most : bound ≤ 64
     pub best_is : Best p ahead bound best
-    pub gone : (s : ℕ) → s < bound → waits s ≡ false
-    pub still : (s : ℕ) → bound ≤ s → waits s ≡ p s
+    pub gone : (s : ℕ) → s < bound → left s ≡ false
+    pub still : (s : ℕ) → bound ≤ s → left s ≡ p s
 
   pub picking_first : Picking p None
   picking_first =
       record { bound = 0; most = omega arith; best_is = λ q h. absurd (omega arith); gone = λ s h. absurd (omega arith); still = λ s h. refl }
 
-  -- the lowest number that waits is taken up
-  module _ {waits waits' : ℕ → Bool} {best : Option ℕ} (P : Picking waits best) (r : ℕ) (low : r < 64) (had : waits r ≡ true)
-      (first : (s : ℕ) → s < r → waits s ≡ false) (others : (s : ℕ) → waits' s ≡ (waits s && not (eqb s r))) where
+  -- the lowest number left is taken out
+  module _ {left left' : ℕ → Bool} {best : Option ℕ} (P : Picking left best) (r : ℕ) (low : r < 64) (had : left r ≡ true)
+      (first : (s : ℕ) → s < r → left s ≡ false) (others : (s : ℕ) → left' s ≡ (left s && not (eqb s r))) where
     ahead_of : P.bound ≤ r
     ahead_of = by (dec_lt r P.bound)
       where
@@ -79,23 +79,23 @@ module _ (p : ℕ → Bool) (ahead : ℕ → ℕ → Bool) where
     has_it : p r ≡ true
     has_it = sym (P.still r ahead_of) ∙ had
 
-    picking_on : {best' : Option ℕ} → Best p ahead (r + 1) best' → Picking waits' best'
+    picking_on : {best' : Option ℕ} → Best p ahead (r + 1) best' → Picking left' best'
     picking_on B = record { bound = r + 1; most = omega arith; best_is = B; gone = λ s h. gone s h (ℕ_discrete s r); still = still }
       where
-        gone : (s : ℕ) → s < r + 1 → Dec (s ≡ r) → waits' s ≡ false
-        gone s h (yes e) = others s ∙ rw (eq-eqb s r e) (and_right (waits s) false refl)
+        gone : (s : ℕ) → s < r + 1 → Dec (s ≡ r) → left' s ≡ false
+        gone s h (yes e) = others s ∙ rw (eq-eqb s r e) (and_right (left s) false refl)
         gone s h (no n) = others s ∙ rw (first s (omega arith))
 
-        still : (s : ℕ) → r + 1 ≤ s → waits' s ≡ p s
-        still s h = others s ∙ rw (ne_eqb s r (omega arith)) (and-true (waits s) ∙ P.still s (omega (arith, ahead_of)))
+        still : (s : ℕ) → r + 1 ≤ s → left' s ≡ p s
+        still s h = others s ∙ rw (ne_eqb s r (omega arith)) (and-true (left s) ∙ P.still s (omega (arith, ahead_of)))
 
-    pub picking_take : Order ahead → leads_over ahead r best ≡ true → Picking waits' (Some r)
+    pub picking_take : Order ahead → leads_over ahead r best ≡ true → Picking left' (Some r)
     picking_take O t = picking_on (best_take r best O best_here (rw (has_it, t)))
 
-    pub picking_keep : leads_over ahead r best ≡ false → Picking waits' best
+    pub picking_keep : leads_over ahead r best ≡ false → Picking left' best
     picking_keep f = picking_on (best_keep r best best_here (rw (has_it, f)))
 
-  pub picking_low : {waits : ℕ → Bool} (best : Option ℕ) → Picking waits best → IfSome best (λ q. q < 64)
+  pub picking_low : {left : ℕ → Bool} (best : Option ℕ) → Picking left best → IfSome best (λ q. q < 64)
   picking_low None P = tt
   picking_low (Some b) P = omega (arith, P.most, P.best_is.below)
 
@@ -103,8 +103,8 @@ module _ (p : ℕ → Bool) (ahead : ℕ → ℕ → Bool) where
   best_end m None B = rw (lead_none p ahead m B, le-ltb m m (omega arith))
   best_end m (Some b) B = rw (lead_all p ahead m b B, lt-ltb b m B.below)
 
-  pub picking_end : {waits : ℕ → Bool} {best : Option ℕ} → Picking waits best → ((s : ℕ) → waits s ≡ false)
+  pub picking_end : {left : ℕ → Bool} {best : Option ℕ} → Picking left best → ((s : ℕ) → left s ≡ false)
       → best ≡ below 64 (foremost p ahead 64)
-  picking_end {waits} {best} P none =
+  picking_end {left} {best} P none =
       let e : P.bound + (64 - P.bound) ≡ 64 = omega (arith, P.most) in
       best_end 64 best (rw e at (best_past P.bound (64 - P.bound) best P.best_is (λ s h l. sym (P.still s h) ∙ none s)))

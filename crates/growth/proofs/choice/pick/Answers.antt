@@ -1,4 +1,4 @@
--- `pick` meets its contract. The invariant: of the rows that were taken up the best is kept. Assumes nothing.
+-- `pick` meets its contract. The invariant: of the rows that were taken out the best is kept. Assumes nothing.
 use Rattle.std.proofs.Common.{ℕ, sym, ◌∙◌, get_or}
 use Rattle.laws.proofs.Foremost.{by_key}
 use Rattle.growth.specs.Rows.{has}

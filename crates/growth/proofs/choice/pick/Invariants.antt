@@ -1,4 +1,4 @@
--- `pick` meets its contract. The invariant: of the rows that were taken up the best is kept. Assumes nothing.
+-- `pick` meets its contract. The invariant: of the rows that were taken out the best is kept. Assumes nothing.
 use Rattle.std.proofs.Common.{get_or}
 use Rattle.growth.specs.Rows.{has}
 use Rattle.growth.specs.Search.{fewer}
