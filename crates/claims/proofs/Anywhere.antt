@@ -26,7 +26,7 @@ use Rattle.claims.proofs.Regions.{any_memory, length_all}
 use Rattle.claims.proofs.Whole.{iterated_lent, iterated_long, word_lent}
 
 module _ (c : Code) (rx w w' : List Float) (room : work_of c ≤ length w) (room' : work_of c ≤ length w') where
-  start_long : (v : List Float) → work_of c ≤ length v → length (start_memory c rx v) ≡ length v
+  pub start_long : (v : List Float) → work_of c ≤ length v → length (start_memory c rx v) ≡ length v
   unfolding start_memory work_of to_bits_at to_checks_at bits_of slots_of
   start_long v h = length_all (bits_of (code_graph c) c.z) (slots_of (code_graph c) c.z) (channel_of c rx) _ v h
 
@@ -34,7 +34,7 @@ module _ (c : Code) (rx w w' : List Float) (room : work_of c ≤ length w) (room
   unfolding start_memory work_of to_bits_at to_checks_at bits_of slots_of
   same_place = any_memory (bits_of (code_graph c) c.z) (slots_of (code_graph c) c.z) (channel_of c rx) _ w w' room room'
 
-  same_start : take (work_of c) (start_memory c rx w) ≡ take (work_of c) (start_memory c rx w')
+  pub same_start : take (work_of c) (start_memory c rx w) ≡ take (work_of c) (start_memory c rx w')
   same_start =
       let long = length-take-le (work_of c) (start_memory c rx w) (omega (arith, start_long w room)) in
       let long' = length-take-le (work_of c) (start_memory c rx w') (omega (arith, start_long w' room')) in

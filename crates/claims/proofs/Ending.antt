@@ -28,7 +28,7 @@ use Rattle.claims.proofs.Noiseless.{alpha_positive, one_iteration, that_word}
 
 -- what an accepted read gives is the unbroken decode's
 module _ (c : Code) (rx w : List Float) (sum lent : ℕ) (out : List ℕ) (x : DecodeResult) where
-  gives : owed_read c rx w sum lent (length out) ≡ Ok x → result_of c (unbroken alpha c rx w sum) ≡ x
+  pub gives : owed_read c rx w sum lent (length out) ≡ Ok x → result_of c (unbroken alpha c rx w sum) ≡ x
   unfolding owed_read
   gives =
       length_cases P never 9 (length out) c.n_tx

@@ -56,7 +56,7 @@ certain_sided = record { number = refl; side = refl; fit = refl }
 
 -- ---- a run whose first iteration converges ends there
 module _ {W : Type 0} (iterate : ℕ → W → W) (settled : W → Bool) where
-  run_first : (p : Progress W) → (next iterate settled p).converged ≡ true → (n : ℕ) → 1 ≤ n
+  pub run_first : (p : Progress W) → (next iterate settled p).converged ≡ true → (n : ℕ) → 1 ≤ n
       → run iterate settled n p ≡ next iterate settled p
   unfolding run
   run_first p e n h =
@@ -64,11 +64,11 @@ module _ {W : Type 0} (iterate : ℕ → W → W) (settled : W → Bool) where
       rw (← k) (run_add iterate settled 1 (n - 1) p ∙ run_done iterate settled (n - 1) (next iterate settled p) e)
 
 -- ---- the lifted bit that is sent at place i: those below k, and then those from `end` on
-abbrev sent_bit : ℕ → ℕ → ℕ → ℕ
+abbrev pub sent_bit : ℕ → ℕ → ℕ → ℕ
 sent_bit k end i = cond (ltb i k) i (end + (i - k))
 
 module _ (k end : ℕ) (short : k ≤ end) (i : ℕ) where
-  sent_is : (word : List ℕ) → lifted k end word (sent_bit k end i) ≡ eqb (get_or word i 0) 1
+  pub sent_is : (word : List ℕ) → lifted k end word (sent_bit k end i) ≡ eqb (get_or word i 0) 1
   unfolding lifted is_sent place_of
   sent_is word =
       elim (dec_lt i k) [
@@ -80,14 +80,14 @@ module _ (k end : ℕ) (short : k ≤ end) (i : ℕ) where
 
 -- ---- an encoding's bytes are bits, and the first k are those that were given
 module _ (g : BaseGraph) (z k : ℕ) (info : List ℕ) (length_info : length info ≡ k) where
-  own_bits : take k (encoding g z k info) ≡ info
+  pub own_bits : take k (encoding g z k info) ≡ info
   own_bits =
       let word : List ℕ = encoding g z k info in
       let long : length (take k word) ≡ k = length-take-le k word (omega (arith, length_encoding g z k info)) in
       ext_get_or 0 (take k word) info (long ∙ sym length_info)
       (λ i h. let l : i < k = omega arith in get_or-take k word i 0 l ∙ encoding_info g z k info i l)
 
-  encoded_bits : Bits info → Bits (encoding g z k info)
+  pub encoded_bits : Bits info → Bits (encoding g z k info)
   encoded_bits bits i h =
       elim (dec_lt i k) [
         | yes l ↦ rw (encoding_info g z k info i l) (bits i (omega arith))
@@ -102,34 +102,34 @@ module _ (c : Code) (is_made : made c ≡ true) where
   abbrev g : BaseGraph
   g = code_graph c
 
-  short : c.k ≤ info_end c
+  pub short : c.k ≤ info_end c
   unfolding info_end
   short = (sized c is_made).info_most
 
-  block : c.k + checks_of c ≡ c.n_tx
+  pub block : c.k + checks_of c ≡ c.n_tx
   unfolding checks_of
   block = (sized c is_made).parity
 
-  all_bits : info_end c + checks_of c ≡ bits_of g c.z
+  pub all_bits : info_end c + checks_of c ≡ bits_of g c.z
   unfolding info_end checks_of bits_of
   all_bits =
       sym (add-mul g.shape.k_b g.shape.m_b c.z) ∙ ap (λ (n : ℕ). n * c.z) (sized c is_made).shape.columns
 
   -- an encoding meets every check
   module _ (info : List ℕ) (length_info : length info ≡ c.k) (bits : Bits info) where
-    encoded_met : unsatisfied_of c (encoding_of c info) ≡ 0
+    pub encoded_met : unsatisfied_of c (encoding_of c info) ≡ 0
     unfolding encoding_of
     encoded_met =
         (codeword c is_made (encoding_of c info) (encoded_length c is_made info) (encoded_bits g c.z c.k info length_info bits)).1
         (ap (encoding_of c) (sym (own_bits g c.z c.k info length_info)))
 
-    check_met : (s : ℕ) → s < g.shape.m_b * c.z → check_sum g c.z (lifted c.k (info_end c) (encoding_of c info)) s ≡ false
+    pub check_met : (s : ℕ) → s < g.shape.m_b * c.z → check_sum g c.z (lifted c.k (info_end c) (encoding_of c info)) s ≡ false
     unfolding unsatisfied_of unmet
     check_met = none_counted _ (g.shape.m_b * c.z) encoded_met
 
   module _ (word : List ℕ) where
     -- where the readings are on the sides of a word's bits, so is the channel, shortened places included
-    channel_sided : (rx : List Float) → ((i : ℕ) → i < c.n_tx → Sided (eqb (get_or word i 0) 1) (get_or rx i nan))
+    pub channel_sided : (rx : List Float) → ((i : ℕ) → i < c.n_tx → Sided (eqb (get_or word i 0) 1) (get_or rx i nan))
         → (v : ℕ) → v < bits_of g c.z → Sided (lifted c.k (info_end c) word v) (channel_of c rx v)
     unfolding channel_of lifted is_sent place_of
     channel_sided rx readings v h =
@@ -155,7 +155,7 @@ module _ (c : Code) (is_made : made c ≡ true) where
           ∙ ap bit (decided (sent_bit c.k (info_end c) i) inside ∙ sent_is c.k (info_end c) short i word)
           ∙ bit_of (get_or word i 0) (bits i (omega arith))
 
-      word_read : word_of c w ≡ word
+      pub word_read : word_of c w ≡ word
       unfolding word_of
       word_read =
           let length_read : length (word_of c w) ≡ c.n_tx = length_tabulate _ c.n_tx in
@@ -166,19 +166,19 @@ module _ (c : Code) (is_made : made c ≡ true) where
     abbrev message : ℕ → Float
     message s = channel_of c rx (bit_at g c.z (s / c.z) (s % c.z))
 
-    start_long : needed g c.z ≤ length (start_memory c rx w)
+    pub start_long : needed g c.z ≤ length (start_memory c rx w)
     unfolding start_memory to_checks_at to_bits_at needed bits_of slots_of work_of
     start_long = rw (length_all (bits_of g c.z) (slots_of g c.z) (channel_of c rx) message w room) room
 
-    start_channel : (v : ℕ) → v < bits_of g c.z → get_or (start_memory c rx w) v nan ≡ channel_of c rx v
+    pub start_channel : (v : ℕ) → v < bits_of g c.z → get_or (start_memory c rx w) v nan ≡ channel_of c rx v
     unfolding start_memory to_checks_at to_bits_at bits_of slots_of work_of
     start_channel = channel_at (bits_of g c.z) (slots_of g c.z) (channel_of c rx) message w room
 
-    start_sent : (s : ℕ) → s < slots_of g c.z → reading (start_memory c rx w) (to_checks_at g c.z) s ≡ message s
+    pub start_sent : (s : ℕ) → s < slots_of g c.z → reading (start_memory c rx w) (to_checks_at g c.z) s ≡ message s
     unfolding start_memory to_checks_at to_bits_at bits_of slots_of work_of
     start_sent = sent_at_lem (bits_of g c.z) (slots_of g c.z) (channel_of c rx) message w room
 
-    start_fresh : (s : ℕ) → s < slots_of g c.z
+    pub start_fresh : (s : ℕ) → s < slots_of g c.z
         → reading (start_memory c rx w) (to_checks_at g c.z) s ≡ get_or (start_memory c rx w) (bit_at g c.z (s / c.z) (s % c.z)) nan
     unfolding slots_of bits_of
     start_fresh s h =

@@ -51,13 +51,13 @@ module _ (n e : ℕ) (f m : ℕ → Float) (w : List Float) (room : 2 * n + 2 * 
       ∙ low_rewritten nan n n f channelled (omega (arith, length_channelled)) v h
       ∙ rw zero-add at (at_rewritten nan 0 n f w (omega arith) v h)
 
-  totals_at : (v : ℕ) → v < n → get_or all (n + v) nan ≡ f v
+  pub totals_at : (v : ℕ) → v < n → get_or all (n + v) nan ≡ f v
   totals_at v h =
       before_sent (n + v) (omega arith)
       ∙ low_rewritten nan (2 * n) e m totalled (omega (arith, length_totalled)) (n + v) (omega arith)
       ∙ at_rewritten nan n n f channelled (omega (arith, length_channelled)) v h
 
-  bits_at : (s : ℕ) → s < e → get_or all (2 * n + e + s) nan ≡ nought
+  pub bits_at : (s : ℕ) → s < e → get_or all (2 * n + e + s) nan ≡ nought
   bits_at s h = at_rewritten nan (2 * n + e) e (λ s. nought) sent (omega (arith, length_sent)) s h
 
 -- so all four regions are the same in any memory
