@@ -1,0 +1,101 @@
+-- A read of what is held after a list of calls, and what clean says of it. Assumes nothing.
+use Rattle.std.specs.Prelude.{Ok}
+use mathlib.Core.Path.{◌≡◌, refl, sym, ap, ◌∙◌, subst}
+use mathlib.Core.Bool.{true, ◌&&◌, and-eq-true_iff}
+use mathlib.Core.List.{List, [], ◌∷◌, ◌++◌}
+use Prim.Native.Nat.{ℕ, ◌+◌, ◌-◌, ◌<◌, ◌≤◌, min}
+use native.Mathlib.Omega.{arith}
+use lib.Dec.{eqb}
+use lib.ListN.{length, take}
+use lib.Ieee.{Float}
+use borrow.Author.Tests.{eq-eqb, eqb-true}
+use Rattle.refusals.specs.Outcome.{Outcome, after, if_length}
+use Rattle.ldpc.specs.declared.choice.Code.{Code}
+use Rattle.ldpc.specs.Choice.{made}
+use Rattle.ldpc.proofs.Refused.{made_passed}
+use Rattle.decoder.specs.declared.record.DecodeResult.{DecodeResult}
+use Rattle.word.specs.Word.{word_of}
+use Rattle.coder.specs.Calls.{unsatisfied_of, encoding_of}
+use Rattle.decoder.specs.Decoding.{result_of}
+use Rattle.decoder.specs.Calls.{if_work}
+use Rattle.claims.proofs.Whole.{word_lent}
+use Rattle.claims.proofs.Cases.{made_cases, length_cases, work_cases, work_same, never}
+use Rattle.ahead.specs.Decoder.{Choices, Decode, record_of, progress_of, read_outcome, word_after_read, Lowest}
+use Rattle.ahead.specs.Claim.{Accepted, reached, owed_read, owed_word}
+use mathlib.Core.Logic.{◌↔◌}
+use Rattle.coder.proofs.Theorems.{codeword}
+use Rattle.word.proofs.Word.{word_long, word_bits}
+use Rattle.ahead.specs.OneCall.{CleanIsEncoded}
+use Rattle.ahead.proofs.Tests.{eighths_passed, eighths_cases}
+
+-- ---- a read, of the record that is held: whatever its lowest count
+module _ (c : Code) (m : made c ≡ true) (ch : Choices) (rx w : List Float) (l : List Accepted) (e lent : ℕ) (low : 1 ≤ e) (high : e ≤ 8)
+    (given : length (take lent (reached c ch rx w l).memory) ≡ min lent (length w)) (x : Lowest) where
+  pub read_told : (room : ℕ) → read_outcome (record_of c ch.schedule e x (reached c ch rx w l)) (take lent (reached c ch rx w l).memory) room
+      ≡ owed_read c ch rx w l lent room
+  unfolding read_outcome owed_read record_of progress_of result_of
+  read_told room =
+      made_passed _ c m
+      ∙ ap (if_length 9 room c.n_tx)
+      (eighths_passed e _ low high
+      ∙ work_same c (length (take lent (reached c ch rx w l).memory)) _ _ (λ h. rw (word_lent c m lent (reached c ch rx w l).memory h))
+      ∙ ap (λ n. if_work c n (Ok (result_of c (reached c ch rx w l)))) given)
+
+  pub read_word : (out : List ℕ) → word_after_read (record_of c ch.schedule e x (reached c ch rx w l)) (take lent (reached c ch rx w l).memory) out
+      ≡ owed_word c ch rx w l lent out
+  unfolding word_after_read owed_word owed_read record_of
+  read_word out =
+      ap (λ t. after t (λ _. word_of c (take lent (reached c ch rx w l).memory)) out) (read_told (length out))
+      ∙ length_cases same (λ n. refl) 9 (length out) c.n_tx
+      (λ e. work_cases same (λ n. refl) c (min lent (length w)) (λ h. word_lent c m lent (reached c ch rx w l).memory (rw given h)))
+    where
+      same : Outcome DecodeResult → Type 0
+      same t =
+          after t (λ _. word_of c (take lent (reached c ch rx w l).memory)) out ≡ after t (λ _. word_of c (reached c ch rx w l).memory) out
+
+-- what an accepted one gives
+module _ (c : Code) (ch : Choices) (rx w : List Float) (l : List Accepted) (lent : ℕ) (out : List ℕ) (r : DecodeResult) (word : List ℕ) where
+  gives : (room : ℕ) → owed_read c ch rx w l lent room ≡ Ok r → result_of c (reached c ch rx w l) ≡ r
+  unfolding owed_read
+  gives room = length_cases P never 9 room c.n_tx (λ e. work_cases P never c (min lent (length w)) (λ h k. cc))
+    where
+      P : Outcome DecodeResult → Type 0
+      P t = t ≡ Ok r → result_of c (reached c ch rx w l) ≡ r
+
+  pub read_gives : owed_read c ch rx w l lent (length out) ≡ Ok r → owed_word c ch rx w l lent out ≡ word
+      → (r ≡ result_of c (reached c ch rx w l)) × (word ≡ word_of c (reached c ch rx w l).memory)
+  unfolding owed_word
+  read_gives told wrote =
+      (sym (gives (length out) told), sym wrote ∙ ap (λ t. after t (λ _. word_of c (reached c ch rx w l).memory) out) told)
+
+-- ---- clean
+read_given : (d : Decode) (w : List Float) (room : ℕ) (x : DecodeResult) → read_outcome d w room ≡ Ok x
+    → (made d.code ≡ true) × (result_of d.code (progress_of d w) ≡ x)
+unfolding read_outcome
+read_given d w room x =
+    made_cases P never d.code (λ m.
+    length_cases P never 9 room d.code.n_tx (λ l.
+    eighths_cases P never d.eighths _ (λ b.
+    work_cases P never d.code (length w) (λ h e. (m, cc)))))
+  where
+    P : Outcome DecodeResult → Type 0
+    P t = t ≡ Ok x → (made d.code ≡ true) × (result_of d.code (progress_of d w) ≡ x)
+
+Encoded : Code → List ℕ → Type 0
+Encoded c word = word ≡ encoding_of c (take c.k word)
+
+clean_result : (d : Decode) (w : List Float) → made d.code ≡ true
+    → ((result_of d.code (progress_of d w)).clean ≡ true) ↔ (((result_of d.code (progress_of d w)).converged ≡ true) × Encoded d.code (word_of d.code w))
+unfolding result_of progress_of Encoded
+clean_result d w m =
+    let word = codeword d.code m (word_of d.code w) (word_long d.code w) (word_bits d.code w) in
+    let both = and-eq-true_iff d.converged (eqb (unsatisfied_of d.code (word_of d.code w)) 0) in
+    (λ e. ((both.0 e).0, word.0 (eqb-true _ 0 (both.0 e).1)), λ k. both.1 (k.0, eq-eqb _ 0 (word.1 k.1)))
+
+pub clean_is_encoded : CleanIsEncoded
+unfolding word_after_read Encoded
+clean_is_encoded d w out x e =
+    let (m, is) = read_given d w (length out) x e in
+    subst (λ (r : DecodeResult). (r.clean ≡ true) ↔ ((r.converged ≡ true) × Encoded d.code (word_after_read d w out))) is
+    (subst (λ (t : Outcome DecodeResult). ((result_of d.code (progress_of d w)).clean ≡ true)
+    ↔ (((result_of d.code (progress_of d w)).converged ≡ true) × Encoded d.code (after t (λ _. word_of d.code w) out))) (sym e) (clean_result d w m))
