@@ -1,6 +1,6 @@
 -- Mid-block factor: the factors of a list of accepted grants. Assumes nothing.
-use mathlib.Core.Path.{◌≡◌, ap, ◌∙◌}
-use mathlib.Core.Bool.{cond, ◌&&◌}
+use mathlib.Core.Path.{◌≡◌, ap, ◌∙◌, refl}
+use mathlib.Core.Bool.{cond, ◌&&◌, Bool, true, false}
 use mathlib.Core.List.{List, [], ◌∷◌, ◌++◌}
 use Prim.Native.Nat.{ℕ, ◌+◌, ◌-◌, ◌<◌, ◌≤◌, ◌/◌, ◌%◌, ◌*◌}
 use native.Mathlib.Omega.{arith}
@@ -8,6 +8,12 @@ use native.Mathlib.Decide.{dec_le}
 use lib.Dec.{leb}
 use borrow.Author.Tests.{le-leb, lt-leb}
 use Rattle.ahead.specs.Claim.{Accepted, sum_of, factor_at}
+use Rattle.std.specs.Prelude.{None, unwrap_or}
+
+-- ---- a grant that brings nothing leaves the eighths in force
+pub no_force : (t : Bool) (e : ℕ) → cond t e (unwrap_or None e) ≡ e
+no_force true e = refl
+no_force false e = refl
 
 -- ---- the factors of a list of accepted grants, and of one grant more
 pub factor_low : (l : List Accepted) (a : Accepted) (i : ℕ) → 1 ≤ i → i ≤ sum_of l → factor_at (l ++ (a ∷ [])) i ≡ factor_at l i

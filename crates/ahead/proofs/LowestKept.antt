@@ -1,5 +1,5 @@
 -- Lowest count: the least count over a list whose calls all brought the slice. Assumes nothing.
-use Rattle.std.specs.Prelude.{Option, Some}
+use Rattle.std.specs.Prelude.{Option, Some, None}
 use mathlib.Core.Path.{◌≡◌, refl, sym, ap, ◌∙◌, subst}
 use mathlib.Core.Bool.{true, false}
 use mathlib.Core.List.{List, [], ◌∷◌, ◌++◌}
@@ -16,7 +16,7 @@ use Rattle.coder.specs.Calls.{unsatisfied_of}
 use Rattle.channel.specs.Channel.{start_memory}
 use Rattle.word.specs.Word.{word_of}
 use Rattle.ahead.specs.Decoder.{Choices, Decode, Lowest, iterated, unbroken, record_of, first_lowest}
-use Rattle.ahead.specs.Claim.{looks_ahead, Call, grant, begun, after_all, Accepted, sum_of, factor_at, Owed, unbroken_by, reached, force_of, with_grant, weighed_from, lowest_with, owed_after, owed_all, owed_first, held_at, lowest_begun, least_place, BringsSlice, done, kept, looks, LowestKept}
+use Rattle.ahead.specs.Claim.{preview, Call, grant, read, begun, after_all, Accepted, sum_of, factor_at, Owed, unbroken_by, reached, owed_record, force_of, and_granted, weighed_from, lowest_with, with_grant, owed_after, owed_all, owed_first, held_at, lowest_begun, least_place, BringsSlice, LowestKept}
 use Rattle.ahead.proofs.Unbroken.{low_same, goes_on, iterated_most, iterated_least}
 use Rattle.ahead.proofs.Lowest.{count_at, lowest_at, LeastOf, least_first, least_is, weigh_least}
 use Rattle.ahead.proofs.Claim.{A, Good, all_room, broken, good_first, good_one, some_cases, tests_cases, weighed_is}
@@ -62,9 +62,9 @@ module _ (c : Code) (m : made c ≡ true) (ch : Choices) (rx w : List Float) (en
       )
 
   least_grant : (o : Owed) → Least o → (g : ℕ) (brought : Option ℕ) (k : ℕ)
-      → LeastOf c (reads (with_grant c ch rx w o g brought)) (reached c ch rx w (with_grant c ch rx w o g brought)).iterations
+      → LeastOf c (reads (and_granted c ch rx w o g brought)) (reached c ch rx w (and_granted c ch rx w o g brought)).iterations
       (lowest_with c ch rx w o g brought (Some k))
-  unfolding lowest_with with_grant
+  unfolding lowest_with and_granted
   least_grant o L g brought k =
       let a : Accepted = record { g = g; eighths = force_of c ch rx w o brought } in
       let more : List Accepted = o.accepted ++ (a ∷ []) in
@@ -87,27 +87,26 @@ module _ (c : Code) (m : made c ≡ true) (ch : Choices) (rx w : List Float) (en
       tests_cases c m ch rx w enough word o G g brought lent (Some k) P (λ n. L) (λ h B. least_grant o L g brought k))
     where
       P : Outcome Decode → Type 0
-      P t =
-          Least (after t (λ _.
-          record { accepted = with_grant c ch rx w o g brought; eighths = force_of c ch rx w o brought; lowest = lowest_with c ch rx w o g brought (Some k) }) o)
+      P t = Least (after t (λ _. with_grant c ch rx w o g brought (Some k)) o)
 
-  least_all : (o : Owed) → Good c m ch rx w enough word o → Least o → {calls : List Call} → BringsSlice calls → Least (owed_all c ch rx w (length word) o calls)
+  least_all : (o : Owed) → Good c m ch rx w enough word o → Least o → (calls : List Call) → BringsSlice calls → Least (owed_all c ch rx w (length word) o calls)
   unfolding owed_all owed_after
-  least_all o G L done = L
-  least_all o G L (kept g brought k lent B) =
+  least_all o G L [] B = L
+  least_all o G L (grant g brought None lent ∷ calls) B = absurd B
+  least_all o G L (grant g brought (Some k) lent ∷ calls) B =
       least_all (owed_after c ch rx w (length word) o (grant g brought (Some k) lent)) (good_one c m ch rx w enough word o G (grant g brought (Some k) lent))
-      (least_one o G L g brought k lent) B
-  least_all o G L (looks lent out B) = least_all o G L B
-  least_all o G L (looks_ahead g lent copy out B) = least_all o G L B
+      (least_one o G L g brought k lent) calls B
+  least_all o G L (read lent out ∷ calls) B = least_all o G L calls B
+  least_all o G L (preview g lent copy out ∷ calls) B = least_all o G L calls B
 
 pub lowest_kept : LowestKept
-unfolding owed_first held_at record_of reached unbroken_by unbroken iterated run sum_of lowest_begun first_lowest
+unfolding owed_first held_at owed_record record_of reached unbroken_by unbroken iterated run sum_of first_lowest
 lowest_kept c ch rx w k word lent d start calls B =
     let S = A c ch rx w (Some k) word lent d start in
     let room = all_room c ch rx w (Some k) word lent d start in
     let first : Owed = owed_first c ch rx w (lowest_begun c rx w (Some k) word) in
     let o : Owed = owed_all c ch rx w (length word) first calls in
-    let L = least_all c S.code_made ch rx w room word first (good_first c ch rx w (Some k) word lent d start) (least_start c ch rx w k word) B in
+    let L = least_all c S.code_made ch rx w room word first (good_first c ch rx w (Some k) word lent d start) (least_start c ch rx w k word) calls B in
     let is = least_is c (λ i. word_of c (unbroken_by c ch rx w o.accepted i).memory) (reached c ch rx w o.accepted).iterations o.lowest L in
     let held = (broken c ch rx w (Some k) word lent d start calls).1 in
     let same : (after_all (begun d c ch rx (Some k) word w lent) calls).decode.iterations ≡ (reached c ch rx w o.accepted).iterations

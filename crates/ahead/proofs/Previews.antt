@@ -7,7 +7,7 @@ use Prim.Native.Nat.{ℕ, ◌+◌, ◌-◌, ◌<◌, ◌≤◌, min}
 use native.Mathlib.Omega.{arith}
 use lib.Dec.{eqb, ltb}
 use lib.ListN.{length, take, drop, take-append-drop, length-append}
-use lib.Seq.{length-take-le, take-append_seam, drop-append_seam}
+use lib.Seq.{length-take-le, take-append-le, take_at, drop_at}
 use lib.Ieee.{Float}
 use borrow.Author.Tests.{le-ltb, ltb-false}
 use Rattle.refusals.specs.Outcome.{Outcome, refused, and_then, after, if_length}
@@ -26,185 +26,139 @@ use Rattle.decoder.specs.Decoding.{result_of}
 use Rattle.decoder.specs.Calls.{if_work, if_sum}
 use Rattle.claims.proofs.Whole.{word_append}
 use Rattle.claims.proofs.Cases.{length_cases, work_cases, sum_cases, work_same}
-use Rattle.ahead.specs.Refused.{if_eighths, if_brought, if_kept}
+use Rattle.ahead.specs.Refused.{if_eighths, if_brought, if_slice}
 use Rattle.ahead.specs.Decoder.{Choices, Decode, iterated, record_of, progress_of, lowest_of, in_force, granted, lowest_after, grant_outcome, memory_after_grant, read_outcome, word_after_read, preview_outcome, Lowest}
-use Rattle.ahead.specs.Claim.{Accepted, reached, ahead, owed_preview, ahead_word, ahead_copy}
+use Rattle.ahead.specs.Claim.{Accepted, Owed, sum_of, factor_at, unbroken_by, reached, owed_record, force_of, and_granted, looked_at, owed_preview, previewed_word, previewed_copy}
 use Rattle.ahead.specs.Preview.{copied, copy_after_preview, word_after_preview, IsAGrant}
 use Rattle.refusals.proofs.Lengths.{length_passed}
-use Rattle.ahead.proofs.Tests.{tests_of, eighths_passed}
-use Rattle.ahead.proofs.Unbroken.{iterated_lent, iterated_long, goes_on}
+use Rattle.ahead.proofs.Tests.{eighths_passed, work_passed, made_both, eighths_both, work_both, sum_both}
+use Rattle.ahead.proofs.Unbroken.{cut, front_drop, iterated_long, iterated_front, unbroken_front, same_word, same_result, same_iterated, goes_on}
 use Rattle.ahead.proofs.WellAlone.{same_force}
 
--- ---- a preview looks at where a grant more would come to
--- a grant that brings nothing leaves the eighths in force
-pub no_force : (t : Bool) (e : ℕ) → cond t e (unwrap_or None e) ≡ e
-no_force true e = refl
-no_force false e = refl
+-- ---- a preview of what is held after a list of calls
+module _ (c : Code) (m : made c ≡ true) (ch : Choices) (rx w : List Float) (enough : work_of c ≤ length w) (o : Owed) (g lent : ℕ)
+    (copy : List Float) where
+  abbrev W : ℕ
+  W = work_of c
 
-module _ (c : Code) (m : made c ≡ true) (ch : Choices) (rx w : List Float) (l : List Accepted) (e g lent : ℕ) (copy : List Float) where
-  abbrev at : Progress (List Float)
-  at = reached c ch rx w l
+  abbrev here : Progress (List Float)
+  here = reached c ch rx w o.accepted
 
-  abbrev lent_at : List Float
-  lent_at = take lent at.memory
+  abbrev lent_memory : List Float
+  lent_memory = take lent here.memory
 
-  abbrev needs : ℕ
-  needs = work_of c
+  abbrev there : Progress (List Float)
+  there = looked_at c ch rx w o g
 
-  abbrev next_at : Progress (List Float)
-  next_at = ahead c ch rx w l e g
+  abbrev granted_in : List Float → Progress (List Float)
+  granted_in v = granted (owed_record c ch rx w o) g None v
 
-  abbrev granted_at : List Float → Progress (List Float)
-  granted_at v = iterated ch.schedule (λ i. e) c g (record { memory = v; iterations = at.iterations; converged = at.converged })
+  here_long : W ≤ length here.memory
+  unfolding reached unbroken_by
+  here_long = omega (arith, (unbroken_front c m ch.schedule (λ i. factor_at o.accepted (i + 1)) (sum_of o.accepted) rx).long w enough)
 
-  module _ (h : needs ≤ length lent_at) where
-    lent_ahead : seen (λ v. v ++ drop lent at.memory) (granted_at lent_at) ≡ next_at
-    unfolding ahead
-    lent_ahead = iterated_lent c m ch.schedule (λ i. e) g at lent h ∙ goes_on c ch rx w l (record { g = g; eighths = e })
+  there_long : W ≤ length there.memory
+  unfolding looked_at reached unbroken_by
+  there_long =
+      let l : List Accepted = and_granted c ch rx w o g None in
+      omega (arith, (unbroken_front c m ch.schedule (λ i. factor_at l (i + 1)) (sum_of l) rx).long w enough)
 
-    word_ahead : word_of c (granted_at lent_at).memory ≡ word_of c next_at.memory
-    word_ahead =
-        sym (word_append c m (granted_at lent_at).memory (drop lent at.memory)
-        (omega (arith, iterated_long c m ch.schedule (λ i. e) g (record { memory = lent_at; iterations = at.iterations; converged = at.converged }) h)))
-        ∙ ap (λ (p : Progress (List Float)). word_of c p.memory) lent_ahead
+  module _ (v : List Float) (long : W ≤ length v) (same : take W v ≡ take W here.memory) where
+    granted_cut : cut c (granted_in v) ≡ cut c there
+    unfolding granted in_force progress_of owed_record record_of looked_at and_granted force_of
+    granted_cut =
+        same_iterated c m (record { memory = v; iterations = here.iterations; converged = here.converged }) here long here_long
+        (ap (λ (u : List Float). record { memory = u; iterations = here.iterations; converged = here.converged }) same) ch.schedule
+        (λ i. force_of c ch rx w o None) g
+        ∙ ap (cut c) (goes_on c ch rx w o.accepted (record { g = g; eighths = force_of c ch rx w o None }))
 
-    result_ahead : result_of c (granted_at lent_at) ≡ result_of c next_at
-    unfolding result_of
-    result_ahead =
-        ap₂ (λ (p : Progress (List Float)) (word : List ℕ).
-        record { iterations = p.iterations; converged = p.converged; clean = p.converged && eqb (unsatisfied_of c word) 0 }) lent_ahead word_ahead
+    granted_long : W ≤ length (granted_in v).memory
+    unfolding granted progress_of owed_record record_of
+    granted_long = omega (arith, iterated_long c m ch.schedule (λ i. in_force (owed_record c ch rx w o) None) g (progress_of (owed_record c ch rx w o) v) long, long)
 
-    -- in the copy: the needed numbers alone, in front of what lies past them there
-    core : List Float
-    core = take needs lent_at
+    granted_past : drop W (granted_in v).memory ≡ drop W v
+    unfolding granted progress_of owed_record record_of
+    granted_past = front_drop (iterated_front c m ch.schedule (λ i. in_force (owed_record c ch rx w o) None) g here.iterations here.converged) v long
 
-    core_long : length core ≡ needs
-    unfolding core
-    core_long = length-take-le needs lent_at h
+    result_there : result_of c (granted_in v) ≡ result_of c there
+    result_there = same_result c m (granted_in v) there granted_long there_long granted_cut
 
-    abbrev core_memory : List Float
-    core_memory = (granted_at core).memory
+    word_there : word_of c (granted_in v).memory ≡ word_of c there.memory
+    word_there = same_word c m (granted_in v) there granted_long there_long granted_cut
 
-    core_kept : length core_memory ≡ needs
-    core_kept =
-        iterated_long c m ch.schedule (λ i. e) g (record { memory = core; iterations = at.iterations; converged = at.converged }) (omega (arith, core_long)) ∙ core_long
+    memory_there : (granted_in v).memory ≡ take W there.memory ++ drop W v
+    memory_there = sym (take-append-drop W (granted_in v).memory) ∙ ap₂ ◌++◌ (ap (λ p. p.memory) granted_cut) granted_past
 
-    front_ahead : (x : List Float) → (granted_at (core ++ x)).memory ≡ core_memory ++ x
-    front_ahead x =
-        let p : Progress (List Float) = record { memory = core ++ x; iterations = at.iterations; converged = at.converged } in
-        let front : take needs (core ++ x) ≡ core
-        = ap (λ (n : ℕ). take n (core ++ x)) (sym core_long) ∙ take-append_seam core x in
-        let back : drop needs (core ++ x) ≡ x
-        = ap (λ (n : ℕ). drop n (core ++ x)) (sym core_long) ∙ drop-append_seam core x in
-        ap (λ q. q.memory) (sym (iterated_lent c m ch.schedule (λ i. e) g p needs (omega (arith, ap length front, core_long))))
-        ∙ ap₂ (λ (a b : List Float). (granted_at a).memory ++ b) front back
+  lent_same : W ≤ length lent_memory → take W lent_memory ≡ take W here.memory
+  lent_same h =
+      sym (take-append-le W lent_memory (drop lent here.memory) h) ∙ ap (take W) (take-append-drop lent here.memory)
 
-    copy_ahead : (granted_at (core ++ drop needs copy)).memory ≡ take needs next_at.memory ++ drop needs copy
-    unfolding core
-    copy_ahead =
-        let whole : lent_at ≡ core ++ drop needs lent_at = sym (take-append-drop needs lent_at) in
-        let mine : next_at.memory ≡ core_memory ++ (drop needs lent_at ++ drop lent at.memory)
-        = ap (λ (p : Progress (List Float)). p.memory) (sym lent_ahead)
-        ∙ ap (λ (v : List Float). (granted_at v).memory ++ drop lent at.memory) whole
-        ∙ ap (λ (v : List Float). v ++ drop lent at.memory) (front_ahead (drop needs lent_at))
-        ∙ append_assoc core_memory (drop needs lent_at) (drop lent at.memory) in
-        front_ahead (drop needs copy)
-        ∙ ap (λ (v : List Float). v ++ drop needs copy)
-        (sym (ap (take needs) mine
-        ∙ ap (λ (n : ℕ). take n (core_memory ++ (drop needs lent_at ++ drop lent at.memory))) (sym core_kept)
-        ∙ take-append_seam core_memory (drop needs lent_at ++ drop lent at.memory)))
-
-  -- the call, of the record that is held: whatever its lowest count
-  module _ (low : 1 ≤ e) (high : e ≤ 8) (given : length lent_at ≡ min lent (length w)) (x : Lowest) where
-    abbrev held_record : Decode
-    held_record = record_of c ch.schedule e x at
-
-    same_granted : (v : List Float) → granted held_record g None v ≡ granted_at v
-    unfolding granted in_force progress_of record_of
-    same_granted v = ap (λ (f : ℕ). iterated ch.schedule (λ i. f) c g (record { memory = v; iterations = at.iterations; converged = at.converged })) (no_force at.converged e)
-
-    pub preview_told : (room : ℕ) → preview_outcome held_record g lent_at copy room ≡ owed_preview c ch rx w l e g lent copy room
-    unfolding preview_outcome owed_preview record_of
+  module _ (low : 1 ≤ o.eighths) (high : o.eighths ≤ 8) (given : length lent_memory ≡ min lent (length w)) where
+    pub preview_told : (room : ℕ) → preview_outcome (owed_record c ch rx w o) g lent_memory copy room ≡ owed_preview c ch rx w o g lent copy room
+    unfolding preview_outcome owed_preview owed_record record_of
     preview_told room =
         made_passed _ c m
         ∙ ap (if_length 9 room c.n_tx)
-        (eighths_passed e _ low high
-        ∙ work_same c (length lent_at) _ _
-        (λ h. ap (λ r. if_work c (length copy) (if_sum (at.iterations + g) (Ok r))) (ap (result_of c) (same_granted lent_at) ∙ result_ahead h))
-        ∙ ap (λ n. if_work c n (if_work c (length copy) (if_sum (at.iterations + g) (Ok (result_of c next_at))))) given)
+        (eighths_passed o.eighths _ low high
+        ∙ work_same c (length lent_memory) _ _
+        (λ h. ap (λ r. if_work c (length copy) (if_sum (here.iterations + g) (Ok r))) (result_there lent_memory h (lent_same h)))
+        ∙ ap (λ n. if_work c n (if_work c (length copy) (if_sum (here.iterations + g) (Ok (result_of c there))))) given)
 
     -- where it is accepted, the memory was lent far enough
-    told_cases : (P : Outcome DecodeResult → Type 0) → ((n : Numbers) → P (Err n)) → (needs ≤ length lent_at → P (Ok (result_of c next_at)))
-        → (room : ℕ) → P (owed_preview c ch rx w l e g lent copy room)
+    told_cases : (P : Outcome DecodeResult → Type 0) → ((n : Numbers) → P (Err n)) → (W ≤ length lent_memory → P (Ok (result_of c there)))
+        → (room : ℕ) → P (owed_preview c ch rx w o g lent copy room)
     unfolding owed_preview
     told_cases P refusal p room =
         length_cases P refusal 9 room c.n_tx (λ a.
         work_cases P refusal c (min lent (length w)) (λ h.
-        work_cases P refusal c (length copy) (λ k. sum_cases P refusal (at.iterations + g) (p (rw given h)))))
+        work_cases P refusal c (length copy) (λ k. sum_cases P refusal (here.iterations + g) (p (rw given h)))))
 
-    pub preview_word : (out : List ℕ) → word_after_preview held_record g lent_at copy out ≡ ahead_word c ch rx w l e g lent copy out
-    unfolding word_after_preview ahead_word record_of
+    pub preview_word : (out : List ℕ)
+        → word_after_preview (owed_record c ch rx w o) g lent_memory copy out ≡ previewed_word c ch rx w o g lent copy out
+    unfolding word_after_preview previewed_word owed_record record_of
     preview_word out =
-        ap (λ t. after t (λ _. word_of c (granted held_record g None lent_at).memory) out) (preview_told (length out))
-        ∙ told_cases (λ t. after t (λ _. word_of c (granted held_record g None lent_at).memory) out ≡ after t (λ _. word_of c next_at.memory) out) (λ n. refl)
-        (λ h. ap (λ p. word_of c p.memory) (same_granted lent_at) ∙ word_ahead h) (length out)
+        ap (λ t. after t (λ _. word_of c (granted_in lent_memory).memory) out) (preview_told (length out))
+        ∙ told_cases (λ t. after t (λ _. word_of c (granted_in lent_memory).memory) out ≡ after t (λ _. word_of c there.memory) out) (λ n. refl)
+        (λ h. word_there lent_memory h (lent_same h)) (length out)
 
-    pub preview_copy : (room : ℕ) → copy_after_preview held_record g lent_at copy room ≡ ahead_copy c ch rx w l e g lent copy room
-    unfolding copy_after_preview ahead_copy copied record_of core
+    pub preview_copy : (room : ℕ)
+        → copy_after_preview (owed_record c ch rx w o) g lent_memory copy room ≡ previewed_copy c ch rx w o g lent copy room
+    unfolding copy_after_preview previewed_copy copied owed_record record_of
     preview_copy room =
-        ap (λ t. after t (λ _. (granted held_record g None (take needs lent_at ++ drop needs copy)).memory) copy) (preview_told room)
-        ∙ told_cases (λ t. after t (λ _. (granted held_record g None (take needs lent_at ++ drop needs copy)).memory) copy
-        ≡ after t (λ _. take needs next_at.memory ++ drop needs copy) copy) (λ n. refl)
-        (λ h. ap (λ p. p.memory) (same_granted (take needs lent_at ++ drop needs copy)) ∙ copy_ahead h) room
+        let v : List Float = take W lent_memory ++ drop W copy in
+        ap (λ t. after t (λ _. (granted_in v).memory) copy) (preview_told room)
+        ∙ told_cases (λ t. after t (λ _. (granted_in v).memory) copy ≡ after t (λ _. take W there.memory ++ drop W copy) copy) (λ n. refl)
+        (λ h.
+        let long = length-take-le W lent_memory h in
+        let v_long : W ≤ length v = omega (arith, length-append (take W lent_memory) (drop W copy), long) in
+        memory_there v v_long (take_at (take W lent_memory) (drop W copy) W long ∙ lent_same h)
+        ∙ ap (λ (x : List Float). take W there.memory ++ x) (drop_at (take W lent_memory) (drop W copy) W long)) room
 
+-- ---- a preview is a grant to the copy and a read
 module _ (d : Decode) (g : ℕ) (w copy : List Float) (out : List ℕ) (room : work_of d.code ≤ length w) (room' : work_of d.code ≤ length copy)
     (long : length out ≡ d.code.n_tx) where
-  abbrev W : ℕ
-  W = work_of d.code
+  abbrev needs : ℕ
+  needs = work_of d.code
 
   abbrev v : List Float
   v = copied d w copy
 
-  take_long : length (take W w) ≡ W
-  take_long = length-take-le W w room
+  take_long : length (take needs w) ≡ needs
+  take_long = length-take-le needs w room
 
-  v_long : W ≤ length v
+  v_long : needs ≤ length v
   unfolding copied
-  v_long = omega (arith, length-append (take W w) (drop W copy), take_long)
+  v_long = omega (arith, length-append (take needs w) (drop needs copy), take_long)
 
-  take_v : take W v ≡ take W w
-  unfolding copied
-  take_v = ap (λ (n : ℕ). take n (take W w ++ drop W copy)) (sym take_long) ∙ take-append_seam (take W w) (drop W copy)
+  left_long : made d.code ≡ true → (u : List Float) → needs ≤ length u → needs ≤ length (granted d g None u).memory
+  unfolding granted progress_of
+  left_long m u h = omega (arith, iterated_long d.code m d.schedule (λ i. in_force d None) g (progress_of d u) h, h)
 
-  abbrev force : ℕ → ℕ
-  force i = in_force d None
-
-  abbrev own_core : Progress (List Float)
-  own_core = iterated d.schedule force d.code g (progress_of d (take W w))
-
-  module _ (m : made d.code ≡ true) where
-    by_core : (u : List Float) → take W u ≡ take W w → W ≤ length u → seen (λ y. y ++ drop W u) own_core ≡ granted d g None u
-    unfolding granted progress_of
-    by_core u e h =
-        ap (λ (y : List Float). seen (λ y. y ++ drop W u) (iterated d.schedule force d.code g (progress_of d y))) (sym e)
-        ∙ iterated_lent d.code m d.schedule force g (progress_of d u) W (omega (arith, length-take-le W u h))
-
-    own_core_long : W ≤ length own_core.memory
-    unfolding progress_of
-    own_core_long =
-        omega (arith, iterated_long d.code m d.schedule force g (progress_of d (take W w)) (omega (arith, take_long)), take_long)
-
-    word_same : (u : List Float) → take W u ≡ take W w → W ≤ length u → word_of d.code (granted d g None u).memory ≡ word_of d.code own_core.memory
-    word_same u e h = ap (λ p. word_of d.code p.memory) (sym (by_core u e h)) ∙ word_append d.code m own_core.memory (drop W u) own_core_long
-
-    result_same : (u : List Float) → take W u ≡ take W w → W ≤ length u → result_of d.code (granted d g None u) ≡ result_of d.code own_core
-    unfolding result_of
-    result_same u e h =
-        ap (result_of d.code) (sym (by_core u e h)) ∙ (rw (word_append d.code m own_core.memory (drop W u) own_core_long) refl)
-
-    left_long : W ≤ length (granted d g None v).memory
-    unfolding granted progress_of
-    left_long = omega (arith, iterated_long d.code m d.schedule force g (progress_of d v) v_long, v_long)
+  same_cut : made d.code ≡ true → cut d.code (granted d g None w) ≡ cut d.code (granted d g None v)
+  unfolding granted progress_of copied
+  same_cut m =
+      same_iterated d.code m (progress_of d w) (progress_of d v) room v_long
+      (ap (λ (u : List Float). progress_of d u) (sym (take_at (take needs w) (drop needs copy) needs take_long))) d.schedule (λ i. in_force d None) g
 
   -- the cases: 11, 13, 10, and the grant
   Goal : Outcome DecodeResult → Outcome Decode → Type 0
@@ -228,69 +182,28 @@ module _ (d : Decode) (g : ℕ) (w copy : List Float) (out : List ℕ) (room : w
         let f = same_force d d in
         made_passed _ d.code m ∙ length_passed _ 9 (length out) d.code.n_tx long
         ∙ eighths_passed (in_force d None) _ (omega (arith, f)) (omega (arith, f))
-        ∙ (rw (le-ltb (length (granted d g None v).memory) W (left_long m)) refl)
+        ∙ (rw (le-ltb (length (granted d g None v).memory) needs (left_long m v v_long)) refl)
 
     accepted : Goal (Ok (result_of d.code (granted d g None w))) (Ok rec)
     unfolding Goal word_after_read record_of
     accepted = (
-      ap Ok (result_same m w refl room ∙ sym (result_same m v take_v v_long)) ∙ sym read_is,
+      ap Ok (same_result d.code m _ _ (left_long m w room) (left_long m v v_long) (same_cut m)) ∙ sym read_is,
       refl,
-      word_same m w refl room ∙ sym (word_same m v take_v v_long)
+      same_word d.code m _ _ (left_long m w room) (left_long m v v_long) (same_cut m)
           ∙ sym (ap (λ t. after t (λ _. word_of d.code (granted d g None v).memory) out) read_is),
     )
 
-  preview_is : made d.code ≡ true → preview_outcome d g w copy (length out)
-      ≡ if_eighths d.eighths (if_sum (d.iterations + g) (Ok (result_of d.code (granted d g None w))))
-  unfolding preview_outcome if_work
-  preview_is m =
-      made_passed _ d.code m ∙ length_passed _ 9 (length out) d.code.n_tx long
-      ∙ (rw (le-ltb (length w) W room, le-ltb (length copy) W room') refl)
-
-  grant_is : made d.code ≡ true → grant_outcome d g None None v ≡ if_eighths d.eighths (if_sum (d.iterations + g) (Ok rec))
-  unfolding grant_outcome if_kept if_brought if_work lowest_after
-  grant_is m = made_passed _ d.code m ∙ (rw (le-ltb (length v) W v_long) refl)
-
-  abbrev sums : {A : Type 0} → Bool → Outcome A → Outcome A
-  sums t rest = cond t (refused 10 (d.iterations + g) 65535) rest
-
-  sum_is : {A : Type 0} (rest : Outcome A) → if_sum (d.iterations + g) rest ≡ sums (ltb 65535 (d.iterations + g)) rest
-  unfolding if_sum
-  sum_is rest = by (ltb 65535 (d.iterations + g))
-    where
-      none : Outcome (Unit {0})
-      none = Ok tt
-
-      by : (t : Bool) → and_then (cond t (refused 10 (d.iterations + g) 65535) none) (λ _. rest) ≡ sums t rest
-      by true = refl
-      by false = refl
-
-  tested_goal : made d.code ≡ true → (s t u : Bool) → ltb d.eighths 1 ≡ s → ltb 8 d.eighths ≡ t
-      → Goal (and_then (tests_of d.eighths s t) (λ _. sums u (Ok (result_of d.code (granted d g None w)))))
-      (and_then (tests_of d.eighths s t) (λ _. sums u (Ok rec)))
-  tested_goal m true t u a b = refusals _
-  tested_goal m false true u a b = refusals _
-  tested_goal m false false true a b = refusals _
-  tested_goal m false false false a b = accepted m (ltb-false d.eighths 1 a) (ltb-false 8 d.eighths b)
-
-  goal_made : made d.code ≡ true → Goal (preview_outcome d g w copy (length out)) (grant_outcome d g None None v)
-  unfolding if_eighths
-  goal_made m =
-      let p = preview_is m ∙ ap (λ x. if_eighths d.eighths x) (sum_is (Ok (result_of d.code (granted d g None w)))) in
-      let t = grant_is m ∙ ap (λ x. if_eighths d.eighths x) (sum_is (Ok rec)) in
-      subst (λ x. Goal x (grant_outcome d g None None v)) (sym p)
-      (subst (Goal (if_eighths d.eighths (sums (ltb 65535 (d.iterations + g)) (Ok (result_of d.code (granted d g None w)))))) (sym t)
-      (tested_goal m (ltb d.eighths 1) (ltb 8 d.eighths) (ltb 65535 (d.iterations + g)) refl refl))
-
-  goal_unmade : made d.code ≡ false → Goal (preview_outcome d g w copy (length out)) (grant_outcome d g None None v)
-  unfolding preview_outcome grant_outcome
-  goal_unmade m =
-      subst (λ x. Goal x (grant_outcome d g None None v)) (sym (made_refused _ d.code m))
-      (subst (Goal (refused 11 d.code.rate d.code.n_tx)) (sym (made_refused _ d.code m)) (refusals _))
-
-  goal_all : (t : Bool) → made d.code ≡ t → Goal (preview_outcome d g w copy (length out)) (grant_outcome d g None None v)
-  goal_all true m = goal_made m
-  goal_all false m = goal_unmade m
+  tested : Goal (preview_outcome d g w copy (length out)) (grant_outcome d g None None v)
+  unfolding preview_outcome grant_outcome if_slice if_brought lowest_after
+  tested =
+      made_both Goal refusals d.code (λ m.
+      subst (λ p. Goal p (if_eighths d.eighths (if_work d.code (length v) (if_sum (d.iterations + g) (Ok rec))))) (sym (length_passed _ 9 (length out) d.code.n_tx long))
+      (eighths_both Goal refusals d.eighths (λ e.
+      subst (λ p. Goal p (if_work d.code (length v) (if_sum (d.iterations + g) (Ok rec))))
+      (sym (work_passed d.code (length w) room _ ∙ work_passed d.code (length copy) room' _))
+      (subst (λ t. Goal (if_sum (d.iterations + g) (Ok (result_of d.code (granted d g None w)))) t) (sym (work_passed d.code (length v) v_long _))
+      (sum_both Goal refusals (d.iterations + g) (accepted m e.0 e.1))))))
 
 pub is_a_grant : IsAGrant
 unfolding copy_after_preview word_after_preview memory_after_grant Goal
-is_a_grant d g w copy out room room' long = goal_all d g w copy out room room' long (made d.code) refl
+is_a_grant d g w copy out room room' long = tested d g w copy out room room' long

@@ -6,10 +6,10 @@ use Prim.Native.Nat.{ℕ, ◌+◌, ◌-◌, ◌<◌, ◌≤◌, ◌*◌, ◌/◌
 use native.Mathlib.Omega.{arith}
 use lib.Dec.{eqb}
 use lib.ListN.{length, take, drop, take-append-drop, length-drop}
-use lib.Seq.{length-take-le, ext_get_or, get_or-drop, take-append-le, take-length}
-use lib.Ieee.{Float, nan}
+use lib.Seq.{length-take-le, take_at, drop_at}
+use lib.Ieee.{Float}
 use Rattle.laws.specs.Run.{Progress, run}
-use Rattle.laws.proofs.Front.{Front, front_then, front_past}
+use Rattle.laws.proofs.Front.{Front, front_then, front_lent}
 use Rattle.laws.proofs.Run.{seen, run_add, run_done, run_most, run_long, run_append}
 use Rattle.messages.specs.Memory.{bits_of, slots_of, needed}
 use Rattle.messages.specs.Iteration.{settled}
@@ -31,13 +31,29 @@ use Rattle.ahead.specs.Claim.{Accepted, sum_of, factor_at, unbroken_by, reached,
 use Rattle.ahead.proofs.Layered.{step_front}
 use Rattle.ahead.proofs.Runs.{run_least, run_same, run_going}
 use mathlib.Core.Logic.{◌↔◌}
-use Rattle.claims.proofs.Anywhere.{start_long, same_start}
+use Rattle.claims.proofs.Anywhere.{same_start}
 use Rattle.ahead.specs.OneCall.{Anywhere, AsBefore}
 use Rattle.runs.specs.Runs as R
 use Rattle.ahead.proofs.Eighths.{six_is_alpha}
 use Rattle.ahead.proofs.Factors.{Each, each_at, factor_low, factor_last, sum_more}
 
+-- ---- a function of a list that reads and writes its first n elements alone
+module _ {A : Type 0} {n : ℕ} {f : List A → List A} (F : Front n f) where
+  pub front_take : (w : List A) → n ≤ length w → take n (f w) ≡ f (take n w)
+  front_take w h =
+      let l = length-take-le n w h in
+      ap (take n) (sym (front_lent F n w (omega (arith, l)))) ∙ take_at (f (take n w)) (drop n w) n (F.long (take n w) (omega (arith, l)) ∙ l)
+
+  pub front_drop : (w : List A) → n ≤ length w → drop n (f w) ≡ drop n w
+  front_drop w h =
+      let l = length-take-le n w h in
+      ap (drop n) (sym (front_lent F n w (omega (arith, l)))) ∙ drop_at (f (take n w)) (drop n w) n (F.long (take n w) (omega (arith, l)) ∙ l)
+
 -- ---- start, iterations and the word read and write the needed numbers alone, as in claims/proofs/Whole
+-- a decode cut down to its needed numbers
+abbrev pub cut : Code → Progress (List Float) → Progress (List Float)
+cut c p = seen (take (work_of c)) p
+
 module _ (c : Code) (m : made c ≡ true) (schedule : Schedule) (e : ℕ → ℕ) where
   pub step_of : (i : ℕ) → Front (work_of c) (step schedule (factor_of (e i)) (code_graph c) c.z)
   unfolding work_of needed bits_of slots_of
@@ -58,11 +74,45 @@ module _ (c : Code) (m : made c ≡ true) (schedule : Schedule) (e : ℕ → ℕ
       sym (run_append _ _ step_of same_end n (seen (take k) p) (drop k p.memory) h)
       ∙ ap (λ (w : List Float). iterated schedule e c n (seen (λ v. w) p)) (take-append-drop k p.memory)
 
-  pub unbroken_long : (n : ℕ) (rx w : List Float) → work_of c ≤ length w → length (unbroken schedule e c rx w n).memory ≡ length w
+  pub iterated_front : (n i : ℕ) (converged : Bool)
+      → Front (work_of c) (λ w. (iterated schedule e c n (record { memory = w; iterations = i; converged = converged })).memory)
+  unfolding iterated
+  iterated_front n i converged =
+      record {
+        append = λ w x h. ap (λ p. p.memory) (run_append _ _ step_of same_end n (record { memory = w; iterations = i; converged = converged }) x h);
+        long = λ w h. iterated_long n (record { memory = w; iterations = i; converged = converged }) h;
+      }
+
+  pub iterated_cut : (n : ℕ) (p : Progress (List Float)) → work_of c ≤ length p.memory → cut c (iterated schedule e c n p) ≡ iterated schedule e c n (cut c p)
+  iterated_cut n p h =
+      let q : Progress (List Float) = iterated schedule e c n (cut c p) in
+      let l = length-take-le (work_of c) p.memory h in
+      ap (cut c) (sym (iterated_lent n p (work_of c) (omega (arith, l))))
+      ∙ ap (λ (v : List Float). record { memory = v; iterations = q.iterations; converged = q.converged })
+      (take_at q.memory (drop (work_of c) p.memory) (work_of c) (iterated_long n (cut c p) (omega (arith, l)) ∙ l))
+
+  pub unbroken_front : (n : ℕ) (rx : List Float) → Front (work_of c) (λ w. (unbroken schedule e c rx w n).memory)
   unfolding unbroken
-  unbroken_long n rx w h =
-      iterated_long n (record { memory = start_memory c rx w; iterations = 0; converged = false }) (omega (arith, (start_front c rx).long w h))
-      ∙ (start_front c rx).long w h
+  unbroken_front n rx = front_then (start_front c rx) (iterated_front n 0 false)
+
+-- two decodes that are the same as far as their needed numbers go
+module _ (c : Code) (m : made c ≡ true) (p q : Progress (List Float)) (h : work_of c ≤ length p.memory) (k : work_of c ≤ length q.memory)
+    (same : cut c p ≡ cut c q) where
+  pub same_word : word_of c p.memory ≡ word_of c q.memory
+  same_word =
+      let word_cut : (v : List Float) → work_of c ≤ length v → word_of c (take (work_of c) v) ≡ word_of c v
+      = λ v l. word_lent c m (work_of c) v (omega (arith, length-take-le (work_of c) v l)) in
+      sym (word_cut p.memory h) ∙ ap (λ (r : Progress (List Float)). word_of c r.memory) same ∙ word_cut q.memory k
+
+  pub same_result : result_of c p ≡ result_of c q
+  unfolding result_of
+  same_result =
+      ap₂ (λ (r : Progress (List Float)) (word : List ℕ).
+      record { iterations = r.iterations; converged = r.converged; clean = r.converged && eqb (unsatisfied_of c word) 0 }) same same_word
+
+  pub same_iterated : (schedule : Schedule) (e : ℕ → ℕ) (n : ℕ) → cut c (iterated schedule e c n p) ≡ cut c (iterated schedule e c n q)
+  same_iterated schedule e n =
+      iterated_cut c m schedule e n p h ∙ ap (iterated schedule e c n) same ∙ sym (iterated_cut c m schedule e n q k)
 
 -- ---- an accepted grant more goes on where the unbroken decode is
 module _ (c : Code) (ch : Choices) (rx w : List Float) (l : List Accepted) (a : Accepted) where
@@ -138,87 +188,44 @@ module _ (c : Code) (ch : Choices) (rx w : List Float) where
       (record { memory = start_memory c rx w; iterations = 0; converged = false })
       (λ i a b v. ap (λ (e : ℕ). step ch.schedule (factor_of e) (code_graph c) c.z v) (each_at ch.eighths l E (i + 1) (omega arith) (omega arith)))
 
--- ---- what lies past the needed numbers
-module _ (c : Code) (m : made c ≡ true) (schedule : Schedule) (e : ℕ → ℕ) (n : ℕ) where
-  pub unbroken_front : (rx : List Float) → Front (work_of c) (λ w. (unbroken schedule e c rx w n).memory)
-  unfolding unbroken iterated
-  unbroken_front rx =
-      front_then (start_front c rx)
-      (record {
-        append = λ w x h.
-            ap (λ p. p.memory)
-            (run_append (λ i. step schedule (factor_of (e i)) (code_graph c) c.z) (settled (code_graph c) c.z) (step_of c m schedule e) (same_end c m schedule e)
-            n (record { memory = w; iterations = 0; converged = false }) x h);
-        long = λ w h. iterated_long c m schedule e n (record { memory = w; iterations = 0; converged = false }) h;
-      })
-
 -- ---- in any memory
-module _ (c : Code) (m : made c ≡ true) (schedule : Schedule) (e : ℕ → ℕ) (n : ℕ) (rx : List Float) where
-  begun_in : List Float → Progress (List Float)
-  begun_in v = record { memory = start_memory c rx v; iterations = 0; converged = false }
+module _ (c : Code) (m : made c ≡ true) (schedule : Schedule) (e : ℕ → ℕ) (n : ℕ) (rx w w' : List Float) (room : work_of c ≤ length w)
+    (room' : work_of c ≤ length w') where
+  any_cut : cut c (unbroken schedule e c rx w n) ≡ cut c (unbroken schedule e c rx w' n)
+  unfolding unbroken
+  any_cut =
+      same_iterated c m (record { memory = start_memory c rx w; iterations = 0; converged = false })
+      (record { memory = start_memory c rx w'; iterations = 0; converged = false })
+      (omega (arith, (start_front c rx).long w room)) (omega (arith, (start_front c rx).long w' room'))
+      (ap (λ (v : List Float). record { memory = v; iterations = 0; converged = false }) (same_start c rx w w' room room')) schedule e n
 
-  core : List Float → Progress (List Float)
-  core v = iterated schedule e c n (seen (take (work_of c)) (begun_in v))
+  long : work_of c ≤ length (unbroken schedule e c rx w n).memory
+  long = omega (arith, (unbroken_front c m schedule e n rx).long w room)
 
-  result : Progress (List Float) → List ℕ → DecodeResult
-  result p word =
-      record { iterations = p.iterations; converged = p.converged; clean = p.converged && eqb (unsatisfied_of c word) 0 }
+  long' : work_of c ≤ length (unbroken schedule e c rx w' n).memory
+  long' = omega (arith, (unbroken_front c m schedule e n rx).long w' room')
 
-  module _ (v : List Float) (h : work_of c ≤ length v) where
-    long : length (take (work_of c) (start_memory c rx v)) ≡ work_of c
-    long = length-take-le (work_of c) (start_memory c rx v) (omega (arith, start_long c rx v v h h v h))
+  pub any_result : result_of c (unbroken schedule e c rx w n) ≡ result_of c (unbroken schedule e c rx w' n)
+  any_result = same_result c m _ _ long long' any_cut
 
-    core_is : seen (λ w. w ++ drop (work_of c) (start_memory c rx v)) (core v) ≡ unbroken schedule e c rx v n
-    unfolding unbroken core begun_in
-    core_is = iterated_lent c m schedule e n (begun_in v) (work_of c) (omega (arith, long))
+  pub any_word : word_of c (unbroken schedule e c rx w n).memory ≡ word_of c (unbroken schedule e c rx w' n).memory
+  any_word = same_word c m _ _ long long' any_cut
 
-    core_long : length (core v).memory ≡ work_of c
-    unfolding core begun_in
-    core_long = iterated_long c m schedule e n (seen (take (work_of c)) (begun_in v)) (omega (arith, long)) ∙ long
+  pub any_numbers : take (work_of c) (unbroken schedule e c rx w n).memory ≡ take (work_of c) (unbroken schedule e c rx w' n).memory
+  any_numbers = ap (λ p. p.memory) any_cut
 
-    numbers : take (work_of c) (unbroken schedule e c rx v n).memory ≡ (core v).memory
-    numbers =
-        ap (λ p. take (work_of c) p.memory) (sym core_is)
-        ∙ take-append-le (work_of c) (core v).memory (drop (work_of c) (start_memory c rx v)) (omega (arith, core_long))
-        ∙ ap (λ (k : ℕ). take k (core v).memory) (sym core_long) ∙ take-length (core v).memory
-
-    core_word : word_of c (unbroken schedule e c rx v n).memory ≡ word_of c (core v).memory
-    core_word =
-        sym (word_lent c m (work_of c) (unbroken schedule e c rx v n).memory (omega (arith, ap length numbers, core_long))) ∙ ap (word_of c) numbers
-
-    core_result : result_of c (unbroken schedule e c rx v n) ≡ result (core v) (word_of c (core v).memory)
-    unfolding result_of result
-    core_result = ap₂ (λ (p : Progress (List Float)) (word : List ℕ). result p word) (sym core_is) core_word
-
-  module _ (w w' : List Float) (room : work_of c ≤ length w) (room' : work_of c ≤ length w') where
-    same_core : core w ≡ core w'
-    unfolding core begun_in
-    same_core = ap (λ (v : List Float). iterated schedule e c n (seen (λ u. v) (begun_in w))) (same_start c rx w w' room room')
-
-    pub any_result : result_of c (unbroken schedule e c rx w n) ≡ result_of c (unbroken schedule e c rx w' n)
-    any_result = core_result w room ∙ ap (λ p. result p (word_of c p.memory)) same_core ∙ sym (core_result w' room')
-
-    pub any_word : word_of c (unbroken schedule e c rx w n).memory ≡ word_of c (unbroken schedule e c rx w' n).memory
-    any_word = core_word w room ∙ ap (λ p. word_of c p.memory) same_core ∙ sym (core_word w' room')
-
-    pub any_numbers : take (work_of c) (unbroken schedule e c rx w n).memory ≡ take (work_of c) (unbroken schedule e c rx w' n).memory
-    any_numbers = numbers w room ∙ ap (λ p. p.memory) same_core ∙ sym (numbers w' room')
+  pub past_numbers : drop (work_of c) (unbroken schedule e c rx w n).memory ≡ drop (work_of c) w
+  past_numbers = front_drop (unbroken_front c m schedule e n rx) w room
 
 pub anywhere : Anywhere
-unfolding result_of
 anywhere c m schedule e rx w w' n room room' =
-    let f = unbroken_front c m schedule e n rx in
-    let p : Progress (List Float) = unbroken schedule e c rx w n in
-    let k : ℕ = work_of c in
-    let r = any_result c m schedule e n rx w w' room room' in (
-      ap (λ x. x.iterations) r,
-      ap (λ x. x.converged) r,
+    let same = any_cut c m schedule e n rx w w' room room' in (
+      ap (λ p. p.iterations) same,
+      ap (λ p. p.converged) same,
       any_numbers c m schedule e n rx w w' room room',
-      ext_get_or nan (drop k p.memory) (drop k w) (omega (arith, length-drop k p.memory, length-drop k w, f.long w room))
-          (λ i h. get_or-drop k p.memory i nan ∙ front_past f nan w room (k + i) (omega arith) ∙ sym (get_or-drop k w i nan)),
+      past_numbers c m schedule e n rx w w' room room',
     )
 
--- ---- as before
 pub as_before : AsBefore
-unfolding unbroken iterated step R.unbroken R.iterated
-as_before c rx w n = rw six_is_alpha refl
+unfolding iterated step R.iterated
+as_before c e n p = (refl, rw six_is_alpha refl)
