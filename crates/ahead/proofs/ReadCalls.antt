@@ -11,22 +11,26 @@ use lib.Ieee.{Float}
 use borrow.Author.Tests.{eq-eqb, eqb-true}
 use Rattle.refusals.specs.Outcome.{Outcome, after, if_length}
 use Rattle.ldpc.specs.declared.choice.Code.{Code}
-use Rattle.ldpc.specs.Choice.{made}
+use Rattle.ldpc.specs.Choice.{made, if_made}
 use Rattle.ldpc.proofs.Refused.{made_passed}
 use Rattle.decoder.specs.declared.record.DecodeResult.{DecodeResult}
 use Rattle.word.specs.Word.{word_of}
 use Rattle.coder.specs.Calls.{unsatisfied_of, encoding_of}
+use Rattle.decoder.specs.Decoding as B
 use Rattle.decoder.specs.Decoding.{result_of}
+use Rattle.decoder.specs.Calls as D
 use Rattle.decoder.specs.Calls.{if_work}
 use Rattle.claims.proofs.Whole.{word_lent}
 use Rattle.claims.proofs.Cases.{made_cases, length_cases, work_cases, work_same, never}
-use Rattle.ahead.specs.Decoder.{Choices, Decode, record_of, progress_of, read_outcome, word_after_read, Lowest}
-use Rattle.ahead.specs.Claim.{Accepted, reached, owed_read, owed_word}
+use Rattle.ahead.specs.Decoder.{Choices, Decode, record_of, progress_of, read_outcome, word_after_read, Lowest, grant_outcome, preview_outcome}
+use Rattle.ahead.specs.Claim.{Accepted, reached, owed_read, owed_word, RecordTested}
 use mathlib.Core.Logic.{◌↔◌}
 use Rattle.coder.proofs.Theorems.{codeword}
 use Rattle.word.proofs.Word.{word_long, word_bits}
-use Rattle.ahead.specs.OneCall.{CleanIsEncoded}
-use Rattle.ahead.proofs.Tests.{eighths_passed, eighths_cases}
+use Rattle.ahead.specs.OneCall.{CleanIsEncoded, ReadAsBefore}
+use Rattle.ahead.proofs.Tests.{eighths_passed, eighths_cases, eighths_refused}
+use Rattle.refusals.proofs.Lengths.{length_passed}
+use Rattle.ahead.specs.Refused.{if_slice}
 
 -- ---- a read, of the record that is held: whatever its lowest count
 module _ (c : Code) (m : made c ≡ true) (ch : Choices) (rx w : List Float) (l : List Accepted) (e lent : ℕ) (low : 1 ≤ e) (high : e ≤ 8)
@@ -99,3 +103,20 @@ clean_is_encoded d w out x e =
     subst (λ (r : DecodeResult). (r.clean ≡ true) ↔ ((r.converged ≡ true) × Encoded d.code (word_after_read d w out))) is
     (subst (λ (t : Outcome DecodeResult). ((result_of d.code (progress_of d w)).clean ≡ true)
     ↔ (((result_of d.code (progress_of d w)).converged ≡ true) × Encoded d.code (after t (λ _. word_of d.code w) out))) (sym e) (clean_result d w m))
+
+-- ---- the read of a decoder without eighths
+pub read_as_before : ReadAsBefore
+unfolding read_outcome word_after_read D.read_told D.read_written progress_of B.progress_of
+read_as_before d low high w out =
+    let same : read_outcome d w (length out) ≡ D.read_told (record { code = d.code; iterations = d.iterations; converged = d.converged }) w (length out)
+    = ap (λ t. if_made d.code (if_length 9 (length out) d.code.n_tx t)) (eighths_passed d.eighths _ low high) in
+    (same, ap (λ t. after t (λ _. word_of d.code w) out) same)
+
+-- ---- the record's eighths are tested first
+pub record_tested : RecordTested
+unfolding grant_outcome read_outcome preview_outcome if_slice
+record_tested d t m e = (
+  λ g brought w. made_passed _ d.code m ∙ eighths_refused d.eighths t e _,
+  λ w. made_passed _ d.code m ∙ length_passed _ 9 d.code.n_tx d.code.n_tx refl ∙ eighths_refused d.eighths t e _,
+  λ g w copy. made_passed _ d.code m ∙ length_passed _ 9 d.code.n_tx d.code.n_tx refl ∙ eighths_refused d.eighths t e _,
+)

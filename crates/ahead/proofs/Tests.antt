@@ -1,6 +1,6 @@
 -- The tests of the refusals 12 to 19, passed and by cases; their numbers. Assumes nothing.
 use Rattle.std.specs.Prelude.{Ok, Err, Option, Some, None}
-use mathlib.Core.Path.{◌≡◌, refl, ◌∙◌}
+use mathlib.Core.Path.{◌≡◌, refl, ◌∙◌, ap}
 use mathlib.Core.Bool.{Bool, true, false, cond, ◌&&◌}
 use mathlib.Core.List.{[], ◌∷◌, ◌++◌}
 use Prim.Native.Nat.{ℕ, ◌+◌, ◌-◌, ◌<◌, ◌≤◌}
@@ -9,7 +9,7 @@ use lib.Dec.{ltb, eqb}
 use borrow.Author.Tests.{le-ltb, ltb-false, lt-ltb, eqb-true}
 use Rattle.refusals.specs.Outcome.{Outcome, refused, and_then, if_length}
 use Rattle.refusals.specs.declared.Numbers.{Numbers}
-use Rattle.ahead.specs.Refused.{if_eighths, if_brought, RangeTested, PairNumbered}
+use Rattle.ahead.specs.Refused.{if_eighths, if_brought, RangeTested, PairNumbered, ranged}
 use Rattle.ldpc.specs.declared.choice.Code.{Code}
 use Rattle.ldpc.specs.Choice.{made, if_made}
 use Rattle.ldpc.specs.Code.{work_of}
@@ -25,6 +25,10 @@ module _ {A : Type 0} where
   pub eighths_passed : (e : ℕ) (rest : Outcome A) → 1 ≤ e → e ≤ 8 → if_eighths e rest ≡ rest
   unfolding if_eighths
   eighths_passed e rest h k = rw (le-ltb e 1 h, le-ltb 8 e k) refl
+
+  pub eighths_refused : (e : ℕ) (t : Numbers) → ranged 13 e 1 8 ≡ Err t → (rest : Outcome A) → if_eighths e rest ≡ Err t
+  unfolding if_eighths
+  eighths_refused e t h rest = ap (λ x. and_then x (λ _. rest)) h
 
   pub work_passed : (c : Code) (n : ℕ) → work_of c ≤ n → (rest : Outcome A) → if_work c n rest ≡ rest
   unfolding if_work
