@@ -19,7 +19,7 @@ use Rattle.ahead.specs.Decoder.{Choices, Decode, Lowest, iterated, unbroken, rec
 use Rattle.ahead.specs.Claim.{preview, Call, grant, read, begun, after_all, Accepted, sum_of, factor_at, Owed, unbroken_by, reached, owed_record, force_of, and_granted, weighed_from, lowest_with, with_grant, owed_after, owed_all, owed_first, held_at, lowest_begun, least_place, BringsSlice, LowestKept, GrantWeighs, CountFits}
 use Rattle.ahead.proofs.Unbroken.{low_same, goes_on, iterated_most, iterated_least}
 use Rattle.ahead.proofs.Lowest.{count_at, LeastOf, least_first, least_is, weigh_least, least_ext, told_all}
-use Rattle.ahead.proofs.Claim.{A, Good, all_room, broken, good_first, good_one, some_cases, tests_cases, weighed_is}
+use Rattle.ahead.proofs.Claim.{A, Good, all_room, broken, good_first, good_one, owed_cases, weighed_is}
 use lib.Dec.{eqb}
 use borrow.Author.Tests.{ne_eqb}
 use Rattle.refusals.specs.declared.Numbers.{Numbers}
@@ -73,25 +73,20 @@ module _ (c : Code) (m : made c ≡ true) (ch : Choices) (rx w : List Float) (en
       (subst (LeastOf (read_at more) (before + n)) (sym (weighed_is c m ch rx w enough word more before n o.lowest))
       (weigh_least (read_at more) c (λ j. (unbroken_by c ch rx w more (before + j)).memory) before before n o.lowest L' (λ j x y. refl)))
 
-  least_one : (o : Owed) → Good c m ch rx w enough word o → Least o → (g : ℕ) (brought : Option ℕ) (k lent : ℕ)
-      → Least (owed_after c ch rx w (length word) o (grant g brought (Some k) lent))
+  least_one : (o : Owed) → Least o → (g : ℕ) (brought : Option ℕ) (k lent : ℕ) → Least (owed_after c ch rx w (length word) o (grant g brought (Some k) lent))
   unfolding owed_after
-  least_one o G L g brought k lent =
-      some_cases c m ch rx w enough word o G g brought lent k P (λ n. L) (λ e.
-      tests_cases c m ch rx w enough word o G g brought lent (Some k) P (λ n. L) (λ h B. least_grant o L g brought k))
-    where
-      P : Outcome Decode → Type 0
-      P t = Least (after t (λ _. with_grant c ch rx w o g brought (Some k)) o)
+  least_one o L g brought k lent =
+      owed_cases c ch rx w (length word) o g brought (Some k) lent (λ t. Least (after t (λ _. with_grant c ch rx w o g brought (Some k)) o)) (λ n. L)
+      (λ f B h. least_grant o L g brought k)
 
-  least_all : (o : Owed) → Good c m ch rx w enough word o → Least o → (calls : List Call) → BringsSlice calls → Least (owed_all c ch rx w (length word) o calls)
+  least_all : (o : Owed) → Least o → (calls : List Call) → BringsSlice calls → Least (owed_all c ch rx w (length word) o calls)
   unfolding owed_all owed_after
-  least_all o G L [] B = L
-  least_all o G L (grant g brought None lent ∷ calls) B = absurd B
-  least_all o G L (grant g brought (Some k) lent ∷ calls) B =
-      least_all (owed_after c ch rx w (length word) o (grant g brought (Some k) lent)) (good_one c m ch rx w enough word o G (grant g brought (Some k) lent))
-      (least_one o G L g brought k lent) calls B
-  least_all o G L (read lent out ∷ calls) B = least_all o G L calls B
-  least_all o G L (preview g lent copy out ∷ calls) B = least_all o G L calls B
+  least_all o L [] B = L
+  least_all o L (grant g brought None lent ∷ calls) B = absurd B
+  least_all o L (grant g brought (Some k) lent ∷ calls) B =
+      least_all (owed_after c ch rx w (length word) o (grant g brought (Some k) lent)) (least_one o L g brought k lent) calls B
+  least_all o L (read lent out ∷ calls) B = least_all o L calls B
+  least_all o L (preview g lent copy out ∷ calls) B = least_all o L calls B
 
 pub lowest_kept : LowestKept
 unfolding owed_first held_at owed_record record_of reached unbroken_by unbroken iterated run sum_of first_lowest
@@ -102,7 +97,7 @@ lowest_kept c ch rx w k word lent d start calls B =
     let o : Owed = owed_all c ch rx w (length word) first calls in
     let at : ℕ → Lowest = λ i. read_at c S.code_made ch rx w room word o.accepted i in
     let starts : LeastOf (λ i. read_at c S.code_made ch rx w room word [] i) 0 (lowest_begun c rx w (Some k) word) = least_first _ in
-    let L = least_all c S.code_made ch rx w room word first (good_first c ch rx w (Some k) word lent d start) starts calls B in
+    let L = least_all c S.code_made ch rx w room word first starts calls B in
     let held = (broken c ch rx w (Some k) word lent d start calls).1 in
     let is : o.lowest ≡ at (least_place (count_at at) (after_all (begun d c ch rx (Some k) word w lent) calls).decode.iterations)
     = least_is at (reached c ch rx w o.accepted).iterations o.lowest L ∙ ap (λ (i : ℕ). at (least_place (count_at at) i)) (sym (ap (λ h. h.decode.iterations) held)) in (

@@ -9,7 +9,7 @@ use lib.Dec.{ltb, eqb}
 use borrow.Author.Tests.{le-ltb, ltb-false, lt-ltb, eqb-true}
 use Rattle.refusals.specs.Outcome.{Outcome, refused, and_then, if_length}
 use Rattle.refusals.specs.declared.Numbers.{Numbers}
-use Rattle.ahead.specs.Refused.{if_eighths, if_brought, RangeTested, PairNumbered, ranged}
+use Rattle.ahead.specs.Refused.{if_eighths, if_brought, RangeTested, PairNumbered, ranged, if_slice}
 use Rattle.ldpc.specs.declared.choice.Code.{Code}
 use Rattle.ldpc.specs.Choice.{made, if_made}
 use Rattle.ldpc.specs.Code.{work_of}
@@ -42,6 +42,11 @@ module _ {A : Type 0} where
 abbrev tested : {A B : Type 0} → (Outcome A → Outcome B → Type 0) → Outcome A → Outcome B → Outcome (Unit {0}) → Type 0
 tested R rest rest' t = R (and_then t (λ _. rest)) (and_then t (λ _. rest'))
 
+-- a slice that a call may bring has the length that is wanted
+abbrev pub Fits : Option ℕ → ℕ → Type 0
+Fits None wanted = Unit {0}
+Fits (Some n) wanted = n ≡ wanted
+
 module _ {A B : Type 0} (R : Outcome A → Outcome B → Type 0) (refusals : (n : Numbers) → R (Err n) (Err n)) {rest : Outcome A}
     {rest' : Outcome B} where
   pub made_both : (c : Code) → (made c ≡ true → R rest rest') → R (if_made c rest) (if_made c rest')
@@ -53,6 +58,11 @@ module _ {A B : Type 0} (R : Outcome A → Outcome B → Type 0) (refusals : (n 
   unfolding if_length
   length_both number given wanted p =
       either_way (λ t. tested R rest rest' (cond t (Ok tt) (refused number given wanted))) (eqb given wanted) (λ e. p (eqb-true given wanted e)) (λ e. refusals _)
+
+  pub slice_both : (room : Option ℕ) (wanted : ℕ) → (Fits room wanted → R rest rest') → R (if_slice room wanted rest) (if_slice room wanted rest')
+  unfolding if_slice
+  slice_both None wanted p = p tt
+  slice_both (Some n) wanted p = length_both 9 n wanted p
 
   pub eighths_both : (e : ℕ) → ((1 ≤ e) × (e ≤ 8) → R rest rest') → R (if_eighths e rest) (if_eighths e rest')
   unfolding if_eighths
@@ -78,6 +88,10 @@ Brought (Some e) = (1 ≤ e) × (e ≤ 8)
 module _ {A : Type 0} where
   pub eighths_cases : (P : Outcome A → Type 0) → ((n : Numbers) → P (Err n)) → (e : ℕ) (rest : Outcome A) → ((1 ≤ e) × (e ≤ 8) → P rest) → P (if_eighths e rest)
   eighths_cases P refusal e rest p = eighths_both (λ t u. P t) refusal {rest = rest} {rest' = rest} e p
+
+  pub slice_cases : (P : Outcome A → Type 0) → ((n : Numbers) → P (Err n)) → (room : Option ℕ) (wanted : ℕ) (rest : Outcome A)
+      → (Fits room wanted → P rest) → P (if_slice room wanted rest)
+  slice_cases P refusal room wanted rest p = slice_both (λ t u. P t) refusal {rest = rest} {rest' = rest} room wanted p
 
   pub brought_cases : (P : Outcome A → Type 0) → ((n : Numbers) → P (Err n)) → (brought : Option ℕ) (rest : Outcome A) → (Brought brought → P rest) → P (if_brought brought rest)
   unfolding if_brought
