@@ -33,7 +33,7 @@ use Rattle.ahead.specs.Preview.{copied, copy_after_preview, word_after_preview, 
 use Rattle.refusals.proofs.Lengths.{length_passed}
 use Rattle.ahead.proofs.Tests.{eighths_passed, work_passed, made_both, eighths_both, work_both, sum_both}
 use Rattle.ahead.proofs.Unbroken.{cut, front_drop, iterated_long, iterated_front, unbroken_front, same_word, same_result, same_iterated, goes_on}
-use Rattle.ahead.proofs.WellAlone.{same_force}
+use Rattle.ahead.proofs.Factors.{same_force}
 
 -- ---- a preview of what is held after a list of calls
 module _ (c : Code) (m : made c ≡ true) (ch : Choices) (rx w : List Float) (enough : work_of c ≤ length w) (o : Owed) (g lent : ℕ)
@@ -179,7 +179,7 @@ module _ (d : Decode) (g : ℕ) (w copy : List Float) (out : List ℕ) (room : w
     read_is : read_outcome rec (granted d g None v).memory (length out) ≡ Ok (result_of d.code (granted d g None v))
     unfolding read_outcome record_of progress_of if_work result_of
     read_is =
-        let f = same_force d d in
+        let f = same_force d in
         made_passed _ d.code m ∙ length_passed _ 9 (length out) d.code.n_tx long
         ∙ eighths_passed (in_force d None) _ (omega (arith, f)) (omega (arith, f))
         ∙ (rw (le-ltb (length (granted d g None v).memory) needs (left_long m v v_long)) refl)
