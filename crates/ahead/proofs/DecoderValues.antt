@@ -31,13 +31,13 @@ use Rattle.coder.specs.Calls.{unsatisfied_of, encoding_of}
 use Rattle.channel.specs.Channel.{channel_of, start_memory}
 use Rattle.word.specs.Word.{word_of}
 use Rattle.ahead.specs.Schedules.{flooding, layered, factor_of, layer_to_check, layer_to_bit, layer_total, layer, layers, layered_iteration, step}
-use Rattle.ahead.specs.Decoder.{Decode, iterated, unbroken, record_of, progress_of, in_force, granted, lowest_of, weighed, kept_step, kept_run, Lowest, no_lowest, first_lowest, Choices, lowest_after, start_outcome, grant_outcome, read_outcome, preview_outcome, decode_outcome, decoded_by}
+use Rattle.ahead.specs.Decoder.{Decode, iterated, unbroken, record_of, progress_of, eighths_in_force, run_of_grant, lowest_of, lowest_with_word, weighing_step, weighing_run, Lowest, no_lowest, first_lowest, Choices, lowest_after_grant, start_outcome, grant_outcome, read_outcome, preview_outcome, decode_outcome, outcome_by}
 use Rattle.shifts.specs.Generator.{next_state, state_after}
 use Rattle.matrix.specs.Encoding.{info_sum, total_sum, first_parity, parity_bit, encoding}
 use Rattle.decoder.specs.Decoding.{result_of}
 use Rattle.ahead.specs.Claim.{Accepted, sum_of, factor_at}
 use Rattle.decoder.specs.Calls.{if_work, if_sum}
-use Rattle.ahead.specs.Refused.{if_eighths, if_brought, if_slice}
+use Rattle.ahead.specs.Refused.{if_eighths, if_new_eighths, if_slice}
 
 five_ten : ℕ → Code
 five_ten r = record { rate = r; n_tx = 10; family = 2; z = 1; k = 3; shortened = 0 }
@@ -99,7 +99,7 @@ heard_two_five =
 weighed_five : Progress Lowest
 weighed_five =
     let w = start_memory two_five heard_two_five (zeros 80) in
-    let p = kept_run flooding (λ i. 6) two_five 5
+    let p = weighing_run flooding (λ i. 6) two_five 5
     (record { memory = record { memory = w; lowest = first_lowest two_five w (Some (word_of_zeros 5)) }; iterations = 0; converged = false }) in
     record { memory = p.memory.lowest; iterations = p.iterations; converged = p.converged }
 
@@ -152,9 +152,9 @@ unfolding code_of sum some first edges edge_row edge_column edge_shift parity_ro
     place_of lifted started taken answered bits_of slots_of to_checks_at to_bits_at gathered answer to_bit check_pass added
     total total_pass to_check send_pass iteration decision settled memory_of numbers_of unsatisfied_of channel_of
     start_memory word_of factor_of layer_to_check layer_to_bit layer_total layer layers layered_iteration step iterated
-    unbroken record_of progress_of in_force granted lowest_of weighed kept_step kept_run no_lowest first_lowest heard
+    unbroken record_of progress_of eighths_in_force run_of_grant lowest_of lowest_with_word weighing_step weighing_run no_lowest first_lowest heard
     after_layers after_flooding two_five result_of work_of serves family_code tried_from chosen same_code made
-    if_made if_length if_work if_sum if_eighths if_brought if_slice lowest_after decoded_by start_outcome grant_outcome
+    if_made if_length if_work if_sum if_eighths if_new_eighths if_slice lowest_after_grant outcome_by start_outcome grant_outcome
     read_outcome preview_outcome decode_outcome zeros word_of_zeros up down plus minus heard_two_five weighed_five
     of_eighths record_at has_eighths
 known_values = (refl, refl, refl, refl, refl, refl, refl, refl, refl, refl, refl, refl, refl, refl, refl, refl, refl, refl, refl, refl, refl, refl, refl, refl, refl, refl, refl, refl, refl, refl, refl, refl)

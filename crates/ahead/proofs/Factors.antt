@@ -9,15 +9,15 @@ use lib.Dec.{leb}
 use borrow.Author.Tests.{le-leb, lt-leb}
 use Rattle.ahead.specs.Claim.{Accepted, sum_of, factor_at}
 use Rattle.std.specs.Prelude.{None, unwrap_or}
-use Rattle.ahead.specs.Decoder.{Decode, in_force}
+use Rattle.ahead.specs.Decoder.{Decode, eighths_in_force}
 
 -- ---- a grant that brings nothing leaves the eighths in force
 pub no_force : (t : Bool) (e : ℕ) → cond t e (unwrap_or None e) ≡ e
 no_force true e = refl
 no_force false e = refl
 
-pub same_force : (d : Decode) → in_force d None ≡ d.eighths
-unfolding in_force
+pub same_force : (d : Decode) → eighths_in_force d None ≡ d.eighths
+unfolding eighths_in_force
 same_force d = no_force d.converged d.eighths
 
 -- ---- the factors of a list of accepted grants, and of one grant more

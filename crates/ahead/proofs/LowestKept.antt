@@ -15,8 +15,8 @@ use Rattle.ldpc.specs.Code.{work_of, checks_of, code_graph, info_end}
 use Rattle.coder.specs.Calls.{unsatisfied_of}
 use Rattle.channel.specs.Channel.{start_memory}
 use Rattle.word.specs.Word.{word_of}
-use Rattle.ahead.specs.Decoder.{Choices, Decode, Lowest, iterated, unbroken, record_of, first_lowest, granted, lowest_after, lowest_of, progress_of, in_force, grant_outcome, slice_after_grant}
-use Rattle.ahead.specs.Claim.{preview, Call, grant, read, begun, after_all, Accepted, sum_of, factor_at, Owed, unbroken_by, reached, owed_record, force_of, and_granted, weighed_from, lowest_with, with_grant, owed_after, owed_all, owed_first, held_at, lowest_begun, least_place, BringsSlice, LowestKept, GrantWeighs, CountFits}
+use Rattle.ahead.specs.Decoder.{Choices, Decode, Lowest, iterated, unbroken, record_of, first_lowest, run_of_grant, lowest_after_grant, lowest_of, progress_of, eighths_in_force, grant_outcome, slice_after_grant}
+use Rattle.ahead.specs.Claim.{preview, Call, grant, read, held_first, after_all, Accepted, sum_of, factor_at, Owed, unbroken_by, run_so_far, owed_record, owed_eighths, accepted_with, owed_lowest_from, owed_lowest, with_grant, owed_after, owed_all, owed_first, held_at, owed_lowest_first, least_place, BringsSlice, LowestKept, GrantWeighs, CountFits}
 use Rattle.ahead.proofs.Unbroken.{low_same, goes_on, iterated_most, iterated_least}
 use Rattle.ahead.proofs.Lowest.{count_at, LeastOf, least_first, least_is, weigh_least, least_ext, told_all}
 use Rattle.ahead.proofs.Claim.{A, Good, all_room, broken, good_first, good_one, owed_cases, weighed_is}
@@ -37,10 +37,10 @@ module _ (c : Code) (m : made c ≡ true) (ch : Choices) (rx w : List Float) (en
   read_at l i = let read = word_of c (unbroken_by c ch rx w l i).memory in record { count = unsatisfied_of c read; at = i; word = read }
 
   abbrev Least : Owed → Type 0
-  Least o = LeastOf (read_at o.accepted) (reached c ch rx w o.accepted).iterations o.lowest
+  Least o = LeastOf (read_at o.accepted) (run_so_far c ch rx w o.accepted).iterations o.lowest
 
-  reached_most : (l : List Accepted) → (reached c ch rx w l).iterations ≤ sum_of l
-  unfolding reached unbroken_by unbroken
+  reached_most : (l : List Accepted) → (run_so_far c ch rx w l).iterations ≤ sum_of l
+  unfolding run_so_far unbroken_by unbroken
   reached_most l =
       omega (
         arith,
@@ -48,28 +48,28 @@ module _ (c : Code) (m : made c ≡ true) (ch : Choices) (rx w : List Float) (en
       )
 
   -- and no fewer after one grant more
-  reached_rises : (l : List Accepted) (a : Accepted) → (reached c ch rx w l).iterations ≤ (reached c ch rx w (l ++ (a ∷ []))).iterations
+  reached_rises : (l : List Accepted) (a : Accepted) → (run_so_far c ch rx w l).iterations ≤ (run_so_far c ch rx w (l ++ (a ∷ []))).iterations
   reached_rises l a =
       omega (
         arith,
-        iterated_least c ch.schedule (λ i. a.eighths) a.g (reached c ch rx w l),
+        iterated_least c ch.schedule (λ i. a.eighths) a.g (run_so_far c ch rx w l),
         ap (λ p. p.iterations) (goes_on c ch rx w l a),
       )
 
   least_grant : (o : Owed) → Least o → (g : ℕ) (brought : Option ℕ) (k : ℕ) → Least (with_grant c ch rx w o g brought (Some k))
-  unfolding lowest_with and_granted
+  unfolding owed_lowest accepted_with
   least_grant o L g brought k =
-      let a : Accepted = record { g = g; eighths = force_of c ch rx w o brought } in
+      let a : Accepted = record { g = g; eighths = owed_eighths c ch rx w o brought } in
       let more : List Accepted = o.accepted ++ (a ∷ []) in
-      let before : ℕ = (reached c ch rx w o.accepted).iterations in
-      let n : ℕ = (reached c ch rx w more).iterations - before in
+      let before : ℕ = (run_so_far c ch rx w o.accepted).iterations in
+      let n : ℕ = (run_so_far c ch rx w more).iterations - before in
       let before_less : before ≤ sum_of o.accepted = reached_most o.accepted in
       let L' : LeastOf (read_at more) before o.lowest
       = least_ext (read_at o.accepted) (read_at more) before o.lowest
       (λ i h. ap (λ (p : Progress (List Float)). record { count = unsatisfied_of c (word_of c p.memory); at = i; word = word_of c p.memory })
       (sym (low_same c ch rx w o.accepted a i (omega (arith, before_less))))) L in
-      let all : before + n ≡ (reached c ch rx w more).iterations = omega (arith, reached_rises o.accepted a) in
-      subst (λ (i : ℕ). LeastOf (read_at more) i (weighed_from c ch rx w more before n o.lowest)) all
+      let all : before + n ≡ (run_so_far c ch rx w more).iterations = omega (arith, reached_rises o.accepted a) in
+      subst (λ (i : ℕ). LeastOf (read_at more) i (owed_lowest_from c ch rx w more before n o.lowest)) all
       (subst (LeastOf (read_at more) (before + n)) (sym (weighed_is c m ch rx w enough word more before n o.lowest))
       (weigh_least (read_at more) c (λ j. (unbroken_by c ch rx w more (before + j)).memory) before before n o.lowest L' (λ j x y. refl)))
 
@@ -89,18 +89,18 @@ module _ (c : Code) (m : made c ≡ true) (ch : Choices) (rx w : List Float) (en
   least_all o L (preview g lent copy out ∷ calls) B = least_all o L calls B
 
 pub lowest_kept : LowestKept
-unfolding owed_first held_at owed_record record_of reached unbroken_by unbroken iterated run sum_of first_lowest
+unfolding owed_first held_at owed_record record_of run_so_far unbroken_by unbroken iterated run sum_of first_lowest
 lowest_kept c ch rx w k word lent d start calls B =
     let S = A c ch rx w (Some k) word lent d start in
     let room = all_room c ch rx w (Some k) word lent d start in
-    let first : Owed = owed_first c ch rx w (lowest_begun c rx w (Some k) word) in
+    let first : Owed = owed_first c ch rx w (owed_lowest_first c rx w (Some k) word) in
     let o : Owed = owed_all c ch rx w (length word) first calls in
     let at : ℕ → Lowest = λ i. read_at c S.code_made ch rx w room word o.accepted i in
-    let starts : LeastOf (λ i. read_at c S.code_made ch rx w room word [] i) 0 (lowest_begun c rx w (Some k) word) = least_first _ in
+    let starts : LeastOf (λ i. read_at c S.code_made ch rx w room word [] i) 0 (owed_lowest_first c rx w (Some k) word) = least_first _ in
     let L = least_all c S.code_made ch rx w room word first starts calls B in
     let held = (broken c ch rx w (Some k) word lent d start calls).1 in
-    let is : o.lowest ≡ at (least_place (count_at at) (after_all (begun d c ch rx (Some k) word w lent) calls).decode.iterations)
-    = least_is at (reached c ch rx w o.accepted).iterations o.lowest L ∙ ap (λ (i : ℕ). at (least_place (count_at at) i)) (sym (ap (λ h. h.decode.iterations) held)) in (
+    let is : o.lowest ≡ at (least_place (count_at at) (after_all (held_first d c ch rx (Some k) word w lent) calls).decode.iterations)
+    = least_is at (run_so_far c ch rx w o.accepted).iterations o.lowest L ∙ ap (λ (i : ℕ). at (least_place (count_at at) i)) (sym (ap (λ h. h.decode.iterations) held)) in (
       ap (λ h. h.decode.lowest_at) held ∙ ap (λ x. x.at) is,
       ap (λ h. h.decode.lowest) held ∙ ap (λ x. x.count) is,
       ap (λ h. h.word) held ∙ ap (λ (x : Lowest). x.word ++ drop c.n_tx word) is,
@@ -115,7 +115,7 @@ module _ (d : Decode) (g : ℕ) (brought : Option ℕ) (word : List ℕ) (w : Li
   stood = lowest_of d word
 
   abbrev run_to : ℕ → Progress (List Float)
-  run_to i = granted d i brought w
+  run_to i = run_of_grant d i brought w
 
   -- what stood, at 0, and what is read after i iterations
   abbrev candidate : ℕ → Lowest
@@ -131,11 +131,11 @@ module _ (d : Decode) (g : ℕ) (brought : Option ℕ) (word : List ℕ) (w : Li
       → record { count = unsatisfied_of c (word_of c (run_to i).memory); at = d.iterations + i; word = word_of c (run_to i).memory } ≡ candidate i
   candidate_after i h = rw (ne_eqb i 0 (omega arith)) refl
 
-  weighs : lowest_after d g brought (Some word) w ≡ candidate (least_place (count_at candidate) ((run_to g).iterations - d.iterations))
-  unfolding lowest_after granted progress_of
+  weighs : lowest_after_grant d g brought (Some word) w ≡ candidate (least_place (count_at candidate) ((run_to g).iterations - d.iterations))
+  unfolding lowest_after_grant run_of_grant progress_of
   weighs =
       let n : ℕ = (run_to g).iterations - d.iterations in
-      (told_all c d.schedule (λ i. in_force d brought) (progress_of d w) stood g).lowest_is
+      (told_all c d.schedule (λ i. eighths_in_force d brought) (progress_of d w) stood g).lowest_is
       ∙ least_is candidate (0 + n) _
       (weigh_least candidate c (λ j. (run_to j).memory) d.iterations 0 n stood (least_first candidate)
       (λ j a b. candidate_after j a ∙ ap candidate (omega arith)))
@@ -147,7 +147,7 @@ module _ (d : Decode) (g : ℕ) (brought : Option ℕ) (word : List ℕ) (w : Li
       let least = candidate (least_place (count_at candidate) (x.iterations - d.iterations)) in
       (x.lowest ≡ least.count) × (x.lowest_at ≡ least.at) × (left ≡ least.word)
 
-  record_weighs : Weighs (record_of c d.schedule (in_force d brought) (lowest_after d g brought (Some word) w) (run_to g)) (lowest_after d g brought (Some word) w).word
+  record_weighs : Weighs (record_of c d.schedule (eighths_in_force d brought) (lowest_after_grant d g brought (Some word) w) (run_to g)) (lowest_after_grant d g brought (Some word) w).word
   unfolding record_of
   record_weighs = (ap (λ y. y.count) weighs, ap (λ y. y.at) weighs, ap (λ y. y.word) weighs)
 
@@ -161,15 +161,15 @@ grant_weighs d g brought word w x e =
     work_cases P refusal d.code (length w) (λ h. sum_cases P refusal (d.iterations + g) given))))) e
   where
     P : Outcome Decode → Type 0
-    P t = t ≡ Ok x → Weighs d g brought word w x (after t (λ _. (lowest_after d g brought (Some word) w).word) word)
+    P t = t ≡ Ok x → Weighs d g brought word w x (after t (λ _. (lowest_after_grant d g brought (Some word) w).word) word)
 
     refusal : (n : Numbers) → P (Err n)
     refusal n = never n
 
-    given : P (Ok (record_of d.code d.schedule (in_force d brought) (lowest_after d g brought (Some word) w) (granted d g brought w)))
+    given : P (Ok (record_of d.code d.schedule (eighths_in_force d brought) (lowest_after_grant d g brought (Some word) w) (run_of_grant d g brought w)))
     given q =
-        let is : record_of d.code d.schedule (in_force d brought) (lowest_after d g brought (Some word) w) (granted d g brought w) ≡ x = cc in
-        subst (λ y. Weighs d g brought word w y (lowest_after d g brought (Some word) w).word) is (record_weighs d g brought word w)
+        let is : record_of d.code d.schedule (eighths_in_force d brought) (lowest_after_grant d g brought (Some word) w) (run_of_grant d g brought w) ≡ x = cc in
+        subst (λ y. Weighs d g brought word w y (lowest_after_grant d g brought (Some word) w).word) is (record_weighs d g brought word w)
 
 -- ---- a count of failed checks fits
 pub count_fits : CountFits

@@ -23,7 +23,7 @@ use Rattle.decoder.specs.Calls.{if_work}
 use Rattle.claims.proofs.Whole.{word_lent}
 use Rattle.claims.proofs.Cases.{made_cases, length_cases, work_cases, work_same, never}
 use Rattle.ahead.specs.Decoder.{Choices, Decode, record_of, progress_of, read_outcome, word_after_read, Lowest, grant_outcome, preview_outcome}
-use Rattle.ahead.specs.Claim.{Accepted, reached, owed_read, owed_word, RecordTested}
+use Rattle.ahead.specs.Claim.{Accepted, run_so_far, owed_read, owed_word, RecordTested}
 use mathlib.Core.Logic.{◌↔◌}
 use Rattle.coder.proofs.Theorems.{codeword}
 use Rattle.word.proofs.Word.{word_long, word_bits}
@@ -34,43 +34,43 @@ use Rattle.ahead.specs.Refused.{if_slice}
 
 -- ---- a read, of the record that is held: whatever its lowest count
 module _ (c : Code) (m : made c ≡ true) (ch : Choices) (rx w : List Float) (l : List Accepted) (e lent : ℕ) (low : 1 ≤ e) (high : e ≤ 8)
-    (given : length (take lent (reached c ch rx w l).memory) ≡ min lent (length w)) (x : Lowest) where
-  pub read_told : (room : ℕ) → read_outcome (record_of c ch.schedule e x (reached c ch rx w l)) (take lent (reached c ch rx w l).memory) room
+    (given : length (take lent (run_so_far c ch rx w l).memory) ≡ min lent (length w)) (x : Lowest) where
+  pub read_told : (room : ℕ) → read_outcome (record_of c ch.schedule e x (run_so_far c ch rx w l)) (take lent (run_so_far c ch rx w l).memory) room
       ≡ owed_read c ch rx w l lent room
   unfolding read_outcome owed_read record_of progress_of result_of
   read_told room =
       made_passed _ c m
       ∙ ap (if_length 9 room c.n_tx)
       (eighths_passed e _ low high
-      ∙ work_same c (length (take lent (reached c ch rx w l).memory)) _ _ (λ h. rw (word_lent c m lent (reached c ch rx w l).memory h))
-      ∙ ap (λ n. if_work c n (Ok (result_of c (reached c ch rx w l)))) given)
+      ∙ work_same c (length (take lent (run_so_far c ch rx w l).memory)) _ _ (λ h. rw (word_lent c m lent (run_so_far c ch rx w l).memory h))
+      ∙ ap (λ n. if_work c n (Ok (result_of c (run_so_far c ch rx w l)))) given)
 
-  pub read_word : (out : List ℕ) → word_after_read (record_of c ch.schedule e x (reached c ch rx w l)) (take lent (reached c ch rx w l).memory) out
+  pub read_word : (out : List ℕ) → word_after_read (record_of c ch.schedule e x (run_so_far c ch rx w l)) (take lent (run_so_far c ch rx w l).memory) out
       ≡ owed_word c ch rx w l lent out
   unfolding word_after_read owed_word owed_read record_of
   read_word out =
-      ap (λ t. after t (λ _. word_of c (take lent (reached c ch rx w l).memory)) out) (read_told (length out))
+      ap (λ t. after t (λ _. word_of c (take lent (run_so_far c ch rx w l).memory)) out) (read_told (length out))
       ∙ length_cases same (λ n. refl) 9 (length out) c.n_tx
-      (λ e. work_cases same (λ n. refl) c (min lent (length w)) (λ h. word_lent c m lent (reached c ch rx w l).memory (rw given h)))
+      (λ e. work_cases same (λ n. refl) c (min lent (length w)) (λ h. word_lent c m lent (run_so_far c ch rx w l).memory (rw given h)))
     where
       same : Outcome DecodeResult → Type 0
       same t =
-          after t (λ _. word_of c (take lent (reached c ch rx w l).memory)) out ≡ after t (λ _. word_of c (reached c ch rx w l).memory) out
+          after t (λ _. word_of c (take lent (run_so_far c ch rx w l).memory)) out ≡ after t (λ _. word_of c (run_so_far c ch rx w l).memory) out
 
 -- what an accepted one gives
 module _ (c : Code) (ch : Choices) (rx w : List Float) (l : List Accepted) (lent : ℕ) (out : List ℕ) (r : DecodeResult) (word : List ℕ) where
-  gives : (room : ℕ) → owed_read c ch rx w l lent room ≡ Ok r → result_of c (reached c ch rx w l) ≡ r
+  gives : (room : ℕ) → owed_read c ch rx w l lent room ≡ Ok r → result_of c (run_so_far c ch rx w l) ≡ r
   unfolding owed_read
   gives room = length_cases P never 9 room c.n_tx (λ e. work_cases P never c (min lent (length w)) (λ h k. cc))
     where
       P : Outcome DecodeResult → Type 0
-      P t = t ≡ Ok r → result_of c (reached c ch rx w l) ≡ r
+      P t = t ≡ Ok r → result_of c (run_so_far c ch rx w l) ≡ r
 
   pub read_gives : owed_read c ch rx w l lent (length out) ≡ Ok r → owed_word c ch rx w l lent out ≡ word
-      → (r ≡ result_of c (reached c ch rx w l)) × (word ≡ word_of c (reached c ch rx w l).memory)
+      → (r ≡ result_of c (run_so_far c ch rx w l)) × (word ≡ word_of c (run_so_far c ch rx w l).memory)
   unfolding owed_word
   read_gives told wrote =
-      (sym (gives (length out) told), sym wrote ∙ ap (λ t. after t (λ _. word_of c (reached c ch rx w l).memory) out) told)
+      (sym (gives (length out) told), sym wrote ∙ ap (λ t. after t (λ _. word_of c (run_so_far c ch rx w l).memory) out) told)
 
 -- ---- clean
 read_given : (d : Decode) (w : List Float) (room : ℕ) (x : DecodeResult) → read_outcome d w room ≡ Ok x

@@ -9,7 +9,7 @@ use lib.Dec.{ltb, eqb}
 use borrow.Author.Tests.{le-ltb, ltb-false, lt-ltb, eqb-true}
 use Rattle.refusals.specs.Outcome.{Outcome, refused, and_then, if_length}
 use Rattle.refusals.specs.declared.Numbers.{Numbers}
-use Rattle.ahead.specs.Refused.{if_eighths, if_brought, RangeTested, PairNumbered, ranged, if_slice}
+use Rattle.ahead.specs.Refused.{if_eighths, if_new_eighths, RangeTested, PairNumbered, range_test, if_slice}
 use Rattle.ldpc.specs.declared.choice.Code.{Code}
 use Rattle.ldpc.specs.Choice.{made, if_made}
 use Rattle.ldpc.specs.Code.{work_of}
@@ -26,7 +26,7 @@ module _ {A : Type 0} where
   unfolding if_eighths
   eighths_passed e rest h k = rw (le-ltb e 1 h, le-ltb 8 e k) refl
 
-  pub eighths_refused : (e : ℕ) (t : Numbers) → ranged 13 e 1 8 ≡ Err t → (rest : Outcome A) → if_eighths e rest ≡ Err t
+  pub eighths_refused : (e : ℕ) (t : Numbers) → range_test 13 e 1 8 ≡ Err t → (rest : Outcome A) → if_eighths e rest ≡ Err t
   unfolding if_eighths
   eighths_refused e t h rest = ap (λ x. and_then x (λ _. rest)) h
 
@@ -93,8 +93,8 @@ module _ {A : Type 0} where
       → (Fits room wanted → P rest) → P (if_slice room wanted rest)
   slice_cases P refusal room wanted rest p = slice_both (λ t u. P t) refusal {rest = rest} {rest' = rest} room wanted p
 
-  pub brought_cases : (P : Outcome A → Type 0) → ((n : Numbers) → P (Err n)) → (brought : Option ℕ) (rest : Outcome A) → (Brought brought → P rest) → P (if_brought brought rest)
-  unfolding if_brought
+  pub brought_cases : (P : Outcome A → Type 0) → ((n : Numbers) → P (Err n)) → (brought : Option ℕ) (rest : Outcome A) → (Brought brought → P rest) → P (if_new_eighths brought rest)
+  unfolding if_new_eighths
   brought_cases P refusal None rest p = p tt
   brought_cases P refusal (Some e) rest p = eighths_cases P refusal e rest p
 

@@ -27,7 +27,7 @@ use Rattle.decoder.specs.Decoding.{result_of}
 use Rattle.claims.proofs.Whole.{start_front, word_lent}
 use Rattle.ahead.specs.Schedules.{Schedule, factor_of, step}
 use Rattle.ahead.specs.Decoder.{Choices, iterated, unbroken}
-use Rattle.ahead.specs.Claim.{Accepted, sum_of, factor_at, unbroken_by, reached, grant, read}
+use Rattle.ahead.specs.Claim.{Accepted, sum_of, factor_at, unbroken_by, run_so_far, grant, read}
 use Rattle.ahead.proofs.Layered.{step_front}
 use Rattle.ahead.proofs.Runs.{run_least, run_same, run_going}
 use mathlib.Core.Logic.{◌↔◌}
@@ -117,7 +117,7 @@ module _ (c : Code) (m : made c ≡ true) (p q : Progress (List Float)) (h : wor
 -- ---- an accepted grant more goes on where the unbroken decode is
 module _ (c : Code) (ch : Choices) (rx w : List Float) (l : List Accepted) (a : Accepted) where
   abbrev now : Progress (List Float)
-  now = reached c ch rx w l
+  now = run_so_far c ch rx w l
 
   abbrev more : List Accepted
   more = l ++ (a ∷ [])
@@ -138,7 +138,7 @@ module _ (c : Code) (ch : Choices) (rx w : List Float) (l : List Accepted) (a : 
       (λ i p q v. ap (λ (e : ℕ). step ch.schedule (factor_of e) (code_graph c) c.z v) (factor_low l a (i + 1) (omega arith) (omega arith)))
 
   pub going : now.converged ≡ false → now.iterations ≡ sum_of l
-  unfolding unbroken_by reached unbroken iterated
+  unfolding unbroken_by run_so_far unbroken iterated
   going q = run_going (steps (λ i. factor_at l (i + 1))) ends (sum_of l) fresh q ∙ omega arith
 
   grant_same : (n : ℕ) → n ≤ a.g → iterated ch.schedule (λ i. a.eighths) c n now ≡ iterated ch.schedule (λ i. factor_at more (i + 1)) c n now
@@ -154,14 +154,14 @@ module _ (c : Code) (ch : Choices) (rx w : List Float) (l : List Accepted) (a : 
           (sym (factor_last l a (i + 1) (omega (arith, i_is)) (omega (arith, i_is)))))
 
   pub on_same : (n : ℕ) → n ≤ a.g → iterated ch.schedule (λ i. a.eighths) c n now ≡ unbroken_by c ch rx w more (sum_of l + n)
-  unfolding reached unbroken_by unbroken iterated
+  unfolding run_so_far unbroken_by unbroken iterated
   on_same n h =
       grant_same n h
       ∙ ap (iterated ch.schedule (λ i. factor_at more (i + 1)) c n) (sym (low_same (sum_of l) (omega arith)))
       ∙ sym (run_add (steps (λ i. factor_at more (i + 1))) ends (sum_of l) n fresh)
 
-  pub goes_on : iterated ch.schedule (λ i. a.eighths) c a.g now ≡ reached c ch rx w more
-  unfolding reached
+  pub goes_on : iterated ch.schedule (λ i. a.eighths) c a.g now ≡ run_so_far c ch rx w more
+  unfolding run_so_far
   goes_on = on_same a.g (omega arith) ∙ ap (unbroken_by c ch rx w more) (sym (sum_more l a))
 
 -- ---- a converged run stays, and one goes no further than it may
@@ -180,8 +180,8 @@ module _ (c : Code) (schedule : Schedule) (e : ℕ → ℕ) (n : ℕ) (p : Progr
 
 -- ---- a decode whose factors are all one
 module _ (c : Code) (ch : Choices) (rx w : List Float) where
-  pub one_of : (l : List Accepted) → Each ch.eighths l → reached c ch rx w l ≡ unbroken ch.schedule (λ i. ch.eighths) c rx w (sum_of l)
-  unfolding reached unbroken_by unbroken iterated
+  pub one_of : (l : List Accepted) → Each ch.eighths l → run_so_far c ch rx w l ≡ unbroken ch.schedule (λ i. ch.eighths) c rx w (sum_of l)
+  unfolding run_so_far unbroken_by unbroken iterated
   one_of l E =
       run_same (λ i. step ch.schedule (factor_of (factor_at l (i + 1))) (code_graph c) c.z)
       (λ i. step ch.schedule (factor_of ch.eighths) (code_graph c) c.z) (settled (code_graph c) c.z) (sum_of l)

@@ -27,7 +27,7 @@ use Rattle.channel.specs.Channel.{channel_of, start_memory}
 use Rattle.decoder.specs.Calls.{if_work, if_sum}
 use Rattle.ahead.specs.Refused.{if_eighths}
 use Rattle.ahead.specs.Schedules.{flooding, factor_of, step}
-use Rattle.ahead.specs.Decoder.{Decode, iterated, unbroken, record_of, progress_of, in_force, granted, lowest_of}
+use Rattle.ahead.specs.Decoder.{Decode, iterated, unbroken, record_of, progress_of, eighths_in_force, run_of_grant, lowest_of}
 use Rattle.ahead.specs.Wells.{Pad, no_decode, part_of, memory_with_part, scan_after_deal_to, scan_after_deal, scan_after_deals, first_fault, well_outcome, scan_outcome, scan_told}
 
 code : ℕ → Code
@@ -110,7 +110,7 @@ unfolding xor lt add sub mul div of_int is_nan every some sum pair_sum xor_sum c
     gathered answer to_bit check_pass added total total_pass to_check send_pass iteration decision settled
     code_graph info_end checks_of channel_of start_memory work_of
     lift_of serves code_of family_code tried_from chosen same_code made if_made if_length if_work if_sum if_eighths
-    factor_of step iterated unbroken record_of progress_of in_force granted lowest_of
+    factor_of step iterated unbroken record_of progress_of eighths_in_force run_of_grant lowest_of
     no_decode part_of memory_with_part scan_after_deal_to scan_after_deal scan_after_deals first_fault well_outcome scan_outcome scan_told
     code well plus minus unsettled settled_at_once zeros memory pad numbers_of numbers fresh
 scans = (refl, refl, refl, refl, refl, refl, refl, refl, refl, refl, refl, refl, refl, refl, refl, refl, refl)

@@ -14,7 +14,7 @@ use Rattle.coder.specs.Calls.{encoding_of}
 use Rattle.word.specs.Word.{word_of}
 use Rattle.decoder.specs.Calls.{if_work}
 use Rattle.decoder.specs.Decoding.{result_of}
-use Rattle.ahead.specs.Refused.{ranged}
+use Rattle.ahead.specs.Refused.{range_test}
 use Rattle.ahead.specs.Schedules.{flooding}
 use Rattle.ahead.specs.Decoder.{unbroken}
 
@@ -56,8 +56,8 @@ records_from c setting s w (suc n) =
 -- 19 (blocks), 19 (setting), 2, 1, 9, 8
 unfoldable pub trial_outcome : ℕ → ℕ → ℕ → ℕ → ℕ → ℕ → Outcome Code
 trial_outcome rate n blocks setting room work =
-    and_then (ranged 19 blocks 1 1000) (λ _.
-    and_then (ranged 19 setting 0 65535) (λ _.
+    and_then (range_test 19 blocks 1 1000) (λ _.
+    and_then (range_test 19 setting 0 65535) (λ _.
     and_then (chosen rate n) (λ c. if_length 9 room (5 * blocks) (if_work c work (Ok c)))))
 
 -- what the call tells of that

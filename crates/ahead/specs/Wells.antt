@@ -8,9 +8,9 @@ use Rattle.decoder.specs.Calls.{if_work}
 use Rattle.decoder.specs.Decoding.{result_of}
 use Rattle.channel.specs.Channel.{start_memory}
 use Rattle.word.specs.Word.{word_of}
-use Rattle.ahead.specs.Refused.{ranged, if_eighths}
+use Rattle.ahead.specs.Refused.{range_test, if_eighths}
 use Rattle.ahead.specs.Schedules.{flooding}
-use Rattle.ahead.specs.Decoder.{Choices, Decode, unbroken, granted, lowest_of, first_lowest, record_of, start_outcome, memory_after_start, grant_outcome, memory_after_grant, read_outcome, word_after_read}
+use Rattle.ahead.specs.Decoder.{Choices, Decode, unbroken, run_of_grant, lowest_of, first_lowest, record_of, start_outcome, memory_after_start, grant_outcome, memory_after_grant, read_outcome, word_after_read}
 
 -- a pad: the number of wells; the last served, the well from 0 to which the last iteration was dealt (wells − 1
 -- before any); sixteen decode records, of which the first `wells` are the wells'
@@ -43,7 +43,7 @@ well_after pad i = (pad.last + 1 + i) % pad.wells
 -- ---- set-up: 15
 unfoldable pub pad_outcome : ℕ → Outcome Pad
 pad_outcome wells =
-    and_then (ranged 15 wells 1 16) (λ _.
+    and_then (range_test 15 wells 1 16) (λ _.
     Ok (record { wells = wells; last = wells - 1; decodes = replicate 16 no_decode }))
 
 -- the well after the last served is the first, and so on in well order
@@ -87,7 +87,7 @@ able d = not d.converged && ltb d.iterations 65535
 
 -- the record after a grant of g iterations that brings nothing
 abbrev pub record_after_grant : Decode → ℕ → List Float → Decode
-record_after_grant d g w = record_of d.code d.schedule d.eighths (lowest_of d []) (granted d g None w)
+record_after_grant d g w = record_of d.code d.schedule d.eighths (lowest_of d []) (run_of_grant d g None w)
 
 -- an iteration dealt to well i is a grant of 1 that brings nothing
 unfoldable pub scan_after_deal_to : Scan → ℕ → Scan
@@ -97,7 +97,7 @@ scan_after_deal_to s i =
     record {
       pad =
           record { wells = s.pad.wells; last = i; decodes = set s.pad.decodes i (record_after_grant d 1 own) };
-      memory = memory_with_part s.pad.wells i s.memory (granted d 1 None own).memory;
+      memory = memory_with_part s.pad.wells i s.memory (run_of_grant d 1 None own).memory;
       dealt = set s.dealt i (dealt_to s i + 1);
       left = s.left - 1;
     }
@@ -123,8 +123,8 @@ well_outcome pad part i =
 
 unfoldable pub scan_outcome : Pad → ℕ → List Float → Outcome Scan
 scan_outcome pad allowance w =
-    and_then (ranged 15 pad.wells 1 16) (λ _.
-    and_then (ranged 15 pad.last 0 (pad.wells - 1)) (λ _.
+    and_then (range_test 15 pad.wells 1 16) (λ _.
+    and_then (range_test 15 pad.last 0 (pad.wells - 1)) (λ _.
     and_then (first_fault (well_outcome pad (part_length pad.wells w)) pad.wells) (λ _.
     Ok (scan_after_deals allowance
     (record { pad = pad; memory = w; dealt = replicate 16 0; left = allowance })))))
@@ -295,7 +295,7 @@ OneGrant =
     let n = dealt_in f i events in
     let g = events_after f events in
     (decode_of g.pad.decodes i ≡ record_after_grant d n own)
-    × (part_of g.pad.wells i g.memory ≡ (granted d n None own).memory)
+    × (part_of g.pad.wells i g.memory ≡ (run_of_grant d n None own).memory)
 
 -- so a freshly started one stands and reads as the unbroken decode of its readings with its choices, limited to
 -- what was dealt to it; scans leave its lowest count
