@@ -27,7 +27,7 @@ use Rattle.ahead.specs.Claim.{Accepted, run_so_far, owed_read, owed_word, Record
 use mathlib.Core.Logic.{◌↔◌}
 use Rattle.coder.proofs.Theorems.{codeword}
 use Rattle.word.proofs.Word.{word_long, word_bits}
-use Rattle.ahead.specs.OneCall.{CleanIsEncoded, ReadAsBefore}
+use Rattle.ahead.specs.OneCall.{CleanIsEncoded, PlainRead}
 use Rattle.ahead.proofs.Tests.{eighths_passed, eighths_cases, eighths_refused}
 use Rattle.refusals.proofs.Lengths.{length_passed}
 use Rattle.ahead.specs.Refused.{if_slice}
@@ -105,9 +105,9 @@ clean_is_encoded d w out x e =
     ↔ (((result_of d.code (progress_of d w)).converged ≡ true) × Encoded d.code (after t (λ _. word_of d.code w) out))) (sym e) (clean_result d w m))
 
 -- ---- the read of a decoder without eighths
-pub read_as_before : ReadAsBefore
+pub plain_read : PlainRead
 unfolding read_outcome word_after_read D.read_told D.read_written progress_of B.progress_of
-read_as_before d low high w out =
+plain_read d low high w out =
     let same : read_outcome d w (length out) ≡ D.read_told (record { code = d.code; iterations = d.iterations; converged = d.converged }) w (length out)
     = ap (λ t. if_made d.code (if_length 9 (length out) d.code.n_tx t)) (eighths_passed d.eighths _ low high) in
     (same, ap (λ t. after t (λ _. word_of d.code w) out) same)

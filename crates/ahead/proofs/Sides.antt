@@ -1,4 +1,4 @@
--- The readings of a noiseless pass are on the side of their bits. Assumes nothing.
+-- A noiseless pass, place by place on the sides of its word's bits. Assumes nothing.
 use mathlib.Core.Path.{◌≡◌}
 use mathlib.Core.List.{List}
 use Prim.Native.Nat.{ℕ, ◌<◌}
@@ -9,7 +9,8 @@ use lib.Ieee.{Float, nan}
 use Rattle.laws.proofs.Floats.{Sided}
 use Rattle.ahead.specs.Noiseless.{IsNoiseless}
 
-pub sided_at : (rx : List Float) (word : List ℕ) → IsNoiseless rx word → (n : ℕ) → length word ≡ n
+pub sides : (rx : List Float) (word : List ℕ) (n : ℕ) → length word ≡ n → IsNoiseless rx word
     → (i : ℕ) → i < n → Sided (eqb (get_or word i 0) 1) (get_or rx i nan)
-sided_at rx word quiet n long i h =
-    let (number, side, fit) = quiet i (omega (arith, long)) in record { number = number; side = side; fit = fit }
+sides rx word n long N i h =
+    let (number, side, fit) = N i (omega arith) in
+    record { number = number; side = side; fit = fit }

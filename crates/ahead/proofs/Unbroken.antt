@@ -32,7 +32,7 @@ use Rattle.ahead.proofs.Layered.{step_front}
 use Rattle.ahead.proofs.Runs.{run_least, run_same, run_going}
 use mathlib.Core.Logic.{◌↔◌}
 use Rattle.claims.proofs.Anywhere.{same_start}
-use Rattle.ahead.specs.OneCall.{Anywhere, AsBefore}
+use Rattle.ahead.specs.OneCall.{Anywhere, FirstSchedule}
 use Rattle.runs.specs.Runs as R
 use Rattle.ahead.proofs.Eighths.{six_is_alpha}
 use Rattle.ahead.proofs.Factors.{Each, each_at, factor_low, factor_last, sum_more}
@@ -226,6 +226,6 @@ anywhere c m schedule e rx w w' n room room' =
       past_numbers c m schedule e n rx w w' room room',
     )
 
-pub as_before : AsBefore
-unfolding iterated step R.iterated
-as_before c e n p = (refl, rw six_is_alpha refl)
+pub first_schedule : FirstSchedule
+unfolding unbroken iterated step R.iterated R.unbroken
+first_schedule c n = (λ e p. refl, λ p. rw six_is_alpha refl, λ rx w. rw six_is_alpha refl)
