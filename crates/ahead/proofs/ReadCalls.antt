@@ -22,8 +22,8 @@ use Rattle.decoder.specs.Calls as D
 use Rattle.decoder.specs.Calls.{if_work}
 use Rattle.claims.proofs.Whole.{word_lent}
 use Rattle.claims.proofs.Cases.{made_cases, length_cases, work_cases, work_same, never}
-use Rattle.ahead.specs.Decoder.{Choices, Decode, record_of, progress_of, read_outcome, word_after_read, Lowest, grant_outcome, preview_outcome}
-use Rattle.ahead.specs.Claim.{Accepted, run_so_far, owed_read, owed_word, RecordTested}
+use Rattle.ahead.specs.Decoder.{Choices, Decode, record_of, progress_of, read_outcome, word_after_read, Lowest, grant_outcome, preview_outcome, start_outcome}
+use Rattle.ahead.specs.Claim.{Accepted, run_so_far, owed_read, owed_word, RecordTested, ChoicesTested}
 use mathlib.Core.Logic.{◌↔◌}
 use Rattle.coder.proofs.Theorems.{codeword}
 use Rattle.word.proofs.Word.{word_long, word_bits}
@@ -112,11 +112,19 @@ plain_read d low high w out =
     = ap (λ t. if_made d.code (if_length 9 (length out) d.code.n_tx t)) (eighths_passed d.eighths _ low high) in
     (same, ap (λ t. after t (λ _. word_of d.code w) out) same)
 
--- ---- the record's eighths are tested first
+-- ---- the eighths of a record and of choices are tested first
 pub record_tested : RecordTested
 unfolding grant_outcome read_outcome preview_outcome if_slice
 record_tested d t m e = (
-  λ g brought w. made_passed _ d.code m ∙ eighths_refused d.eighths t e _,
+  λ g brought word w long. (
+    made_passed _ d.code m ∙ eighths_refused d.eighths t e _,
+    made_passed _ d.code m ∙ length_passed _ 9 (length word) d.code.n_tx long ∙ eighths_refused d.eighths t e _,
+  ),
   λ w. made_passed _ d.code m ∙ length_passed _ 9 d.code.n_tx d.code.n_tx refl ∙ eighths_refused d.eighths t e _,
   λ g w copy. made_passed _ d.code m ∙ length_passed _ 9 d.code.n_tx d.code.n_tx refl ∙ eighths_refused d.eighths t e _,
 )
+
+pub choices_tested : ChoicesTested
+unfolding start_outcome if_slice
+choices_tested c ch rx w t m long e =
+    made_passed _ c m ∙ length_passed _ 5 (length rx) c.n_tx long ∙ eighths_refused ch.eighths t e _

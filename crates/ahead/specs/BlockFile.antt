@@ -1,5 +1,5 @@
 -- Block file: its definitions and statements. Assumes nothing.
-use Rattle.std.specs.Prelude.{◌≡◌, Bool, false, not, cond, ◌&&◌, List, [], ◌∷◌, ◌++◌, ℕ, ◌+◌, ◌-◌, ◌*◌, ◌/◌, ◌%◌, ◌^◌, ◌<◌, ◌≤◌, eqb, ltb, leb, length, get_or, take, drop, Ok, Err, Float}
+use Rattle.std.specs.Prelude.{◌≡◌, Bool, true, false, not, cond, ◌&&◌, List, [], ◌∷◌, ◌++◌, ℕ, ◌+◌, ◌-◌, ◌*◌, ◌/◌, ◌%◌, ◌^◌, ◌<◌, ◌≤◌, eqb, ltb, leb, length, get_or, take, drop, Ok, Err, Float}
 use Rattle.std.specs.List.{Contains}
 use Rattle.laws.specs.Range.{sum, first, every}
 use Rattle.laws.specs.Floats.{signed}
@@ -62,7 +62,7 @@ if_block class bytes given rest =
     cond (has_block class bytes) (and_then (chosen (class_rate class) (block_of class bytes)) rest)
     (refused 17 given 0)
 
--- the writer: 16 (5, class), 17, 9
+-- the writer: 16 (5, class), 17, 9; it gives the block's code
 unfoldable pub write_outcome : ℕ → List ℕ → ℕ → Outcome Code
 write_outcome class payload room =
     cond (ltb 1 class) (refused 16 5 class)
@@ -111,10 +111,11 @@ file_tests file room w =
 unfoldable pub heard_file : Code → List ℕ → List Float
 heard_file c file = tabulate (λ i. signed (eqb (bit_in (drop 8 file) i) 1)) c.n_tx
 
--- the decode: 50 iterations of the first schedule at 6 eighths
+-- the decode: 50 iterations of the first schedule, flooding, at 6 eighths
 unfoldable pub file_run : Code → List ℕ → List Float → Progress (List Float)
 file_run c file w = unbroken flooding (λ i. 6) c (heard_file c file) w 50
 
+-- what an accepted file tells
 pub record FileAnswer : Type 0 where
   pub class : ℕ
   pub iterations : ℕ
@@ -157,15 +158,16 @@ NoFill =
     (class bytes : ℕ) → class ≤ 1 → 1 ≤ bytes
     → (c : Code) → chosen (class_rate class) (block_of class bytes) ≡ Ok c → c.k ≡ 8 * bytes
 
--- the payloads with a block: of 1 byte to 1,093 in class 0, to 1,822 in class 1
+-- the most bytes of a payload with a block
 abbrev pub payload_most : ℕ → ℕ
 payload_most class = cond (eqb class 0) 1093 1822
 
+-- a payload has a block from 1 byte to 1,093 in class 0, to 1,822 in class 1
 abbrev pub PayloadsWithBlock : Type 0
 PayloadsWithBlock =
-    (class bytes : ℕ) → class ≤ 1 → 1 ≤ bytes
-    → (bytes ≤ payload_most class → (c : Code) × (chosen (class_rate class) (block_of class bytes) ≡ Ok c))
-    × (payload_most class < bytes → block_of class bytes ≡ 19441)
+    (class bytes : ℕ) → class ≤ 1
+    → (has_block class bytes ≡ (ltb 0 bytes && leb bytes (payload_most class)))
+    × (has_block class bytes ≡ true → (c : Code) × (chosen (class_rate class) (block_of class bytes) ≡ Ok c))
 
 -- the tests before the decode refuse with 16, 17, 9 or 8 alone: 18 comes last, and 1 and 2 never
 abbrev pub BeforeDecode : Type 0

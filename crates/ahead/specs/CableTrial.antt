@@ -25,15 +25,18 @@ draw s i = state_after s (i + 1) / 2 ^ 33
 unfoldable pub info_drawn : Code → ℕ → List ℕ
 info_drawn c s = tabulate (λ i. draw s i % 2) c.k
 
+-- whether the reading at place i is reversed
 abbrev pub is_reversed : Code → ℕ → ℕ → ℕ → Bool
 is_reversed c setting s i = ltb (draw s (c.k + i) % 65536) setting
 
+-- −1 for 1 and +1 for 0, the opposite where reversed
 unfoldable pub heard_block : Code → ℕ → ℕ → List Float
 heard_block c setting s =
     let word = encoding_of c (info_drawn c s) in
     tabulate (λ i. signed (xor (eqb (get_or word i 0) 1) (is_reversed c setting s i))) c.n_tx
 
--- the decode of the block whose state is s at first: 50 iterations of the first schedule at 6 eighths
+-- the decode of the block whose state is s at first: 50 iterations of the first schedule, flooding, at 6
+-- eighths
 unfoldable pub block_run : Code → ℕ → ℕ → List Float → Progress (List Float)
 block_run c setting s w = unbroken flooding (λ i. 6) c (heard_block c setting s) w 50
 
@@ -47,7 +50,8 @@ block_record c setting s w =
     count (is_reversed c setting s) c.n_tx ∷ r.iterations ∷ bit r.converged ∷ bit r.clean
     ∷ bit (every (λ i. eqb (get_or word i 0) (get_or (info_drawn c s) i 0)) c.k) ∷ []
 
--- the state runs on from block to block
+-- the state runs on from block to block; every block is decoded in the lent memory w: what the blocks before left
+-- there gives the same records (`OneMemory`)
 unfoldable pub records_from : Code → ℕ → ℕ → List Float → ℕ → List ℕ
 records_from c setting s w zero = []
 records_from c setting s w (suc n) =
@@ -81,7 +85,8 @@ memory_after_trial rate n blocks setting seed room w =
 abbrev pub entry : List ℕ → ℕ → ℕ → ℕ
 entry l e i = get_or l (5 * i + e) 0
 
--- 0 clean and right, 1 clean and wrong, 2 converged only (not clean), 3 spent (not converged)
+-- clean first, then converged: 0 clean and right, 1 clean and wrong; of those not clean, 2 converged only, 3 spent
+-- (not converged)
 unfoldable pub heading : List ℕ → ℕ → ℕ
 heading l i =
     cond (eqb (entry l 3 i) 0) (cond (eqb (entry l 2 i) 0) 3 2) (cond (eqb (entry l 4 i) 0) 1 0)

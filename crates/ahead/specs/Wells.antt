@@ -20,7 +20,7 @@ pub record Pad : Type 0 where
   pub decodes : List Decode
 
 -- what stands for a record past the sixteen, and for a well that was not started: a scan with such a well is
--- refused with 11
+-- refused, with 11 where no other fault comes first
 unfoldable pub no_decode : Decode
 no_decode =
     record {
@@ -36,7 +36,7 @@ no_decode =
 abbrev pub decode_of : List Decode → ℕ → Decode
 decode_of l i = get_or l i no_decode
 
--- the well i + 1 places after the last served
+-- the well i + 1 places after the last served, in well order, the first following the last
 abbrev pub well_after : Pad → ℕ → ℕ
 well_after pad i = (pad.last + 1 + i) % pad.wells
 
@@ -108,15 +108,18 @@ scan_after_deal s =
     let next = first (λ i. able (decode_of s.pad.decodes (well_after s.pad i))) s.pad.wells in
     cond (ltb next s.pad.wells) (scan_after_deal_to s (well_after s.pad next)) s
 
+-- n deals. A scan makes as many as its allowance, all of it left at first, so something is left before each
 unfoldable pub scan_after_deals : ℕ → Scan → Scan
 scan_after_deals zero s = s
 scan_after_deals (suc n) s = scan_after_deal (scan_after_deals n s)
 
 -- ---- the call: 15 for the wells, 15 for the last served; then 11, 13 and 8 well by well, the lowest first
+-- the tests f 0 .. f (n - 1) in turn, up to the first that refuses
 unfoldable pub first_fault : (ℕ → Outcome (Unit {0})) → ℕ → Outcome (Unit {0})
 first_fault f zero = Ok tt
 first_fault f (suc n) = and_then (first_fault f n) (λ _. f n)
 
+-- 11, 13 and 8 of well i, whose part of the memory has that length; a converged well is tested too
 unfoldable pub well_outcome : Pad → ℕ → ℕ → Outcome (Unit {0})
 well_outcome pad part i =
     let d = decode_of pad.decodes i in if_made d.code (if_eighths d.eighths (if_work d.code part (Ok tt)))
@@ -264,10 +267,11 @@ Stays f well (e ∷ l) = (Replaces e well → event_after f e ≡ f) × Stays (e
 -- what a set-up gives and no event changes
 pub record IsPad (pad : Pad) : Type 0 where
   pub sixteen : length pad.decodes ≡ 16
-  pub some : 1 ≤ pad.wells
-  pub most : pad.wells ≤ 16
+  pub at_least_one : 1 ≤ pad.wells
+  pub at_most_sixteen : pad.wells ≤ 16
 
--- the wells, the length of their memory, what lies past their parts and the records past the wells stay
+-- the number of wells and of records, the length of the memory, what lies past the parts and the records past
+-- the wells stay
 abbrev pub FixedThroughout : Type 0
 FixedThroughout =
     (f : PadState) → IsPad f.pad → (events : List Event)
