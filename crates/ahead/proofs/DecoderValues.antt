@@ -35,7 +35,7 @@ use Rattle.ahead.specs.Decoder.{Decode, iterated, unbroken, record_of, progress_
 use Rattle.shifts.specs.Generator.{next_state, state_after}
 use Rattle.matrix.specs.Encoding.{info_sum, total_sum, first_parity, parity_bit, encoding}
 use Rattle.decoder.specs.Decoding.{result_of}
-use Rattle.ahead.specs.Claim.{Accepted, sum_of, factor_at}
+use Rattle.ahead.specs.Claim.{Accepted, sum_of, eighths_at}
 use Rattle.decoder.specs.Calls.{if_work, if_sum}
 use Rattle.ahead.specs.Refused.{if_eighths, if_new_eighths, if_slice}
 
@@ -116,7 +116,7 @@ has_eighths e (Err n) = false
 
 -- the factor of an iteration; iterations; a lowest count; the refusals of start, grant, read, preview and the one call
 known_values : let l : List Accepted = record { g = 2; eighths = 3 } ∷ record { g = 0; eighths = 5 } ∷ record { g = 1; eighths = 8 } ∷ [] in
-    (factor_at l 1 ≡ 3) × (factor_at l 2 ≡ 3) × (factor_at l 3 ≡ 8) × (sum_of l ≡ 3)
+    (eighths_at l 1 ≡ 3) × (eighths_at l 2 ≡ 3) × (eighths_at l 3 ≡ 8) × (sum_of l ≡ 3)
     × (take 68 (unbroken flooding (λ i. 7) (five_ten 5) heard (zeros 70) 1).memory ≡ after_flooding)
     × (take 68 (unbroken layered (λ i. 7) (five_ten 5) heard (zeros 70) 1).memory ≡ after_layers)
     × (weighed_five.memory ≡ record { count = 1; at = 2; word = 1 ∷ 0 ∷ 1 ∷ 1 ∷ 1 ∷ [] })
@@ -147,7 +147,7 @@ known_values : let l : List Accepted = record { g = 2; eighths = 3 } ∷ record 
     × (decode_outcome 9 10 (of_eighths 1) (zeros 10) 1 [] 10 ≡ refused 8 0 68)
 unfolding code_of sum some first edges edge_row edge_column edge_shift parity_row lift_of shape_of graph_number base_columns
     info_columns base_rows information_columns five_ten code_graph graph_of tabulate row_at shift_at entry_at first_column
-    row_list shift_list bit_at collect checks_of info_end folded add is_nan factor_at sum_of xor lt sub mul div of_int every
+    row_list shift_list bit_at collect checks_of info_end folded add is_nan eighths_at sum_of xor lt sub mul div of_int every
     xor_sum count rewritten negative magnitude next run row_edges edges_by_row slot_of row_sum check_sum unmet is_sent
     place_of lifted started taken answered bits_of slots_of to_checks_at to_bits_at gathered answer to_bit check_pass added
     total total_pass to_check send_pass iteration decision settled memory_of numbers_of unsatisfied_of channel_of

@@ -16,7 +16,7 @@ use Rattle.coder.specs.Calls.{unsatisfied_of}
 use Rattle.channel.specs.Channel.{start_memory}
 use Rattle.word.specs.Word.{word_of}
 use Rattle.ahead.specs.Decoder.{Choices, Decode, Lowest, iterated, unbroken, record_of, first_lowest, run_of_grant, lowest_after_grant, lowest_of, progress_of, eighths_in_force, grant_outcome, slice_after_grant}
-use Rattle.ahead.specs.Claim.{preview, Call, grant, read, held_first, after_all, Accepted, sum_of, factor_at, Owed, unbroken_by, run_so_far, owed_record, owed_eighths, accepted_with, owed_lowest_from, owed_lowest, with_grant, owed_after, owed_all, owed_first, held_at, owed_lowest_first, least_place, BringsSlice, LowestKept, GrantWeighs, CountFits}
+use Rattle.ahead.specs.Claim.{preview, Call, grant, read, held_first, after_all, Accepted, sum_of, eighths_at, Owed, unbroken_by, run_so_far, owed_record, owed_eighths, accepted_with, owed_lowest_from, owed_lowest, with_grant, owed_after, owed_all, owed_first, held_at, owed_lowest_first, least_place, BringsSlice, LowestKept, GrantWeighs, CountFits}
 use Rattle.ahead.proofs.Unbroken.{low_same, goes_on, iterated_most, iterated_least}
 use Rattle.ahead.proofs.Lowest.{count_at, LeastOf, least_first, least_is, weigh_least, least_ext, told_all}
 use Rattle.ahead.proofs.Claim.{A, Good, all_room, broken, good_first, good_one, owed_cases, weighed_is}
@@ -44,7 +44,7 @@ module _ (c : Code) (m : made c ≡ true) (ch : Choices) (rx w : List Float) (en
   reached_most l =
       omega (
         arith,
-        iterated_most c ch.schedule (λ i. factor_at l (i + 1)) (sum_of l) (record { memory = start_memory c rx w; iterations = 0; converged = false }),
+        iterated_most c ch.schedule (λ i. eighths_at l (i + 1)) (sum_of l) (record { memory = start_memory c rx w; iterations = 0; converged = false }),
       )
 
   -- and no fewer after one grant more

@@ -28,7 +28,7 @@ use Rattle.claims.proofs.Whole.{word_append}
 use Rattle.claims.proofs.Cases.{length_cases, work_cases, sum_cases, work_same}
 use Rattle.ahead.specs.Refused.{if_eighths, if_new_eighths, if_slice}
 use Rattle.ahead.specs.Decoder.{Choices, Decode, iterated, record_of, progress_of, lowest_of, eighths_in_force, run_of_grant, lowest_after_grant, grant_outcome, memory_after_grant, read_outcome, word_after_read, preview_outcome, Lowest}
-use Rattle.ahead.specs.Claim.{Accepted, Owed, sum_of, factor_at, unbroken_by, run_so_far, owed_record, owed_eighths, accepted_with, run_ahead, owed_preview, previewed_word, previewed_copy}
+use Rattle.ahead.specs.Claim.{Accepted, Owed, sum_of, eighths_at, unbroken_by, run_so_far, owed_record, owed_eighths, accepted_with, run_ahead, owed_preview, previewed_word, previewed_copy}
 use Rattle.ahead.specs.Preview.{copy_with_needed, copy_after_preview, word_after_preview, IsAGrant}
 use Rattle.refusals.proofs.Lengths.{length_passed}
 use Rattle.ahead.proofs.Tests.{eighths_passed, work_passed, made_both, eighths_both, work_both, sum_both}
@@ -55,13 +55,13 @@ module _ (c : Code) (m : made c ≡ true) (ch : Choices) (rx w : List Float) (en
 
   here_long : W ≤ length here.memory
   unfolding run_so_far unbroken_by
-  here_long = omega (arith, (unbroken_front c m ch.schedule (λ i. factor_at o.accepted (i + 1)) (sum_of o.accepted) rx).long w enough)
+  here_long = omega (arith, (unbroken_front c m ch.schedule (λ i. eighths_at o.accepted (i + 1)) (sum_of o.accepted) rx).long w enough)
 
   there_long : W ≤ length there.memory
   unfolding run_ahead run_so_far unbroken_by
   there_long =
       let l : List Accepted = accepted_with c ch rx w o g None in
-      omega (arith, (unbroken_front c m ch.schedule (λ i. factor_at l (i + 1)) (sum_of l) rx).long w enough)
+      omega (arith, (unbroken_front c m ch.schedule (λ i. eighths_at l (i + 1)) (sum_of l) rx).long w enough)
 
   module _ (v : List Float) (long : W ≤ length v) (same : take W v ≡ take W here.memory) where
     granted_cut : cut c (granted_in v) ≡ cut c there

@@ -27,7 +27,7 @@ use Rattle.decoder.specs.Decoding.{result_of}
 use Rattle.claims.proofs.Whole.{start_front, word_lent}
 use Rattle.ahead.specs.Schedules.{Schedule, factor_of, step}
 use Rattle.ahead.specs.Decoder.{Choices, iterated, unbroken}
-use Rattle.ahead.specs.Claim.{Accepted, sum_of, factor_at, unbroken_by, run_so_far, grant, read}
+use Rattle.ahead.specs.Claim.{Accepted, sum_of, eighths_at, unbroken_by, run_so_far, grant, read}
 use Rattle.ahead.proofs.Layered.{step_front}
 use Rattle.ahead.proofs.Runs.{run_least, run_same, run_going}
 use mathlib.Core.Logic.{◌↔◌}
@@ -134,22 +134,22 @@ module _ (c : Code) (ch : Choices) (rx w : List Float) (l : List Accepted) (a : 
   pub low_same : (n : ℕ) → n ≤ sum_of l → unbroken_by c ch rx w more n ≡ unbroken_by c ch rx w l n
   unfolding unbroken_by unbroken iterated
   low_same n h =
-      run_same (steps (λ i. factor_at more (i + 1))) (steps (λ i. factor_at l (i + 1))) ends n fresh
+      run_same (steps (λ i. eighths_at more (i + 1))) (steps (λ i. eighths_at l (i + 1))) ends n fresh
       (λ i p q v. ap (λ (e : ℕ). step ch.schedule (factor_of e) (code_graph c) c.z v) (factor_low l a (i + 1) (omega arith) (omega arith)))
 
   pub going : now.converged ≡ false → now.iterations ≡ sum_of l
   unfolding unbroken_by run_so_far unbroken iterated
-  going q = run_going (steps (λ i. factor_at l (i + 1))) ends (sum_of l) fresh q ∙ omega arith
+  going q = run_going (steps (λ i. eighths_at l (i + 1))) ends (sum_of l) fresh q ∙ omega arith
 
-  grant_same : (n : ℕ) → n ≤ a.g → iterated ch.schedule (λ i. a.eighths) c n now ≡ iterated ch.schedule (λ i. factor_at more (i + 1)) c n now
+  grant_same : (n : ℕ) → n ≤ a.g → iterated ch.schedule (λ i. a.eighths) c n now ≡ iterated ch.schedule (λ i. eighths_at more (i + 1)) c n now
   unfolding iterated
   grant_same n h = by now.converged refl
     where
-      by : (t : Bool) → now.converged ≡ t → run (steps (λ i. a.eighths)) ends n now ≡ run (steps (λ i. factor_at more (i + 1))) ends n now
+      by : (t : Bool) → now.converged ≡ t → run (steps (λ i. a.eighths)) ends n now ≡ run (steps (λ i. eighths_at more (i + 1))) ends n now
       by true q = run_done _ _ n now q ∙ sym (run_done _ _ n now q)
       by false q =
           let i_is = going q in
-          run_same (steps (λ i. a.eighths)) (steps (λ i. factor_at more (i + 1))) ends n now
+          run_same (steps (λ i. a.eighths)) (steps (λ i. eighths_at more (i + 1))) ends n now
           (λ i b d v. ap (λ (e : ℕ). step ch.schedule (factor_of e) (code_graph c) c.z v)
           (sym (factor_last l a (i + 1) (omega (arith, i_is)) (omega (arith, i_is)))))
 
@@ -157,8 +157,8 @@ module _ (c : Code) (ch : Choices) (rx w : List Float) (l : List Accepted) (a : 
   unfolding run_so_far unbroken_by unbroken iterated
   on_same n h =
       grant_same n h
-      ∙ ap (iterated ch.schedule (λ i. factor_at more (i + 1)) c n) (sym (low_same (sum_of l) (omega arith)))
-      ∙ sym (run_add (steps (λ i. factor_at more (i + 1))) ends (sum_of l) n fresh)
+      ∙ ap (iterated ch.schedule (λ i. eighths_at more (i + 1)) c n) (sym (low_same (sum_of l) (omega arith)))
+      ∙ sym (run_add (steps (λ i. eighths_at more (i + 1))) ends (sum_of l) n fresh)
 
   pub goes_on : iterated ch.schedule (λ i. a.eighths) c a.g now ≡ run_so_far c ch rx w more
   unfolding run_so_far
@@ -183,7 +183,7 @@ module _ (c : Code) (ch : Choices) (rx w : List Float) where
   pub one_of : (l : List Accepted) → Each ch.eighths l → run_so_far c ch rx w l ≡ unbroken ch.schedule (λ i. ch.eighths) c rx w (sum_of l)
   unfolding run_so_far unbroken_by unbroken iterated
   one_of l E =
-      run_same (λ i. step ch.schedule (factor_of (factor_at l (i + 1))) (code_graph c) c.z)
+      run_same (λ i. step ch.schedule (factor_of (eighths_at l (i + 1))) (code_graph c) c.z)
       (λ i. step ch.schedule (factor_of ch.eighths) (code_graph c) c.z) (settled (code_graph c) c.z) (sum_of l)
       (record { memory = start_memory c rx w; iterations = 0; converged = false })
       (λ i a b v. ap (λ (e : ℕ). step ch.schedule (factor_of e) (code_graph c) c.z v) (each_at ch.eighths l E (i + 1) (omega arith) (omega arith)))

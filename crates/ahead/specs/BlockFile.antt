@@ -1,4 +1,5 @@
--- Block file: its definitions and statements. Assumes nothing.
+-- Block file: a payload as a file of coded bits, its writer and its reader. Left open: that with readings of ±1 and 50
+-- iterations a block that converged is clean is not shown, and needs no statement here. Assumes nothing.
 use Rattle.std.specs.Prelude.{◌≡◌, Bool, true, false, not, cond, ◌&&◌, List, [], ◌∷◌, ◌++◌, ℕ, ◌+◌, ◌-◌, ◌*◌, ◌/◌, ◌%◌, ◌^◌, ◌<◌, ◌≤◌, eqb, ltb, leb, length, get_or, take, drop, Ok, Err, Float}
 use Rattle.std.specs.List.{Contains}
 use Rattle.laws.specs.Range.{sum, first, every}

@@ -1,4 +1,5 @@
--- Cable trial: its definitions and statements. Assumes nothing.
+-- Cable trial: blocks drawn from a seed, their records and the report of them. Left open: a seed is a number of 64 bits
+-- by its type; that each number of the report stands on a line of its own is the program's to show. Assumes nothing.
 use Rattle.std.specs.Prelude.{◌≡◌, Bool, false, not, cond, ◌&&◌, List, [], ◌∷◌, ◌++◌, ℕ, zero, suc, ◌+◌, ◌-◌, ◌*◌, ◌/◌, ◌%◌, ◌^◌, ◌<◌, eqb, ltb, length, get_or, Ok, Float}
 use Rattle.std.specs.Bool.{xor}
 use Rattle.laws.specs.Range.{sum, count, every}
