@@ -2,15 +2,15 @@
 -- lowest count, and the refusals of each call in their order. Assumes nothing.
 use Rattle.std.specs.Prelude.{Ok, Some, replicate, Err, None}
 use mathlib.Core.Path.{◌≡◌, refl}
-use mathlib.Core.Bool.{Bool, true, false, xor, ◌&&◌}
-use mathlib.Core.List.{List, [], ◌∷◌, ◌++◌}
-use lib.ListN.{take, get_or}
-use Prim.Native.Nat.{ℕ, ◌+◌}
-use lib.Dec.{T, eqb}
+use mathlib.Core.Bool.{Bool, true, false, xor}
+use mathlib.Core.List.{List, [], ◌∷◌}
+use lib.ListN.{take}
+use Prim.Native.Nat.{ℕ}
+use lib.Dec.{eqb}
 use lib.IntN.{pos, negsuc}
-use lib.Ieee.{Float, nan, inf, fin, lt, add, sub, mul, div, of_int, is_nan}
-use Rattle.laws.specs.Range.{every, some, sum, pair_sum, xor_sum, count, collect, first, folded}
-use Rattle.laws.specs.Columns.{information_columns, parity_row, congruent}
+use lib.Ieee.{Float, fin, lt, add, sub, mul, div, of_int, is_nan}
+use Rattle.laws.specs.Range.{every, some, sum, xor_sum, count, collect, first, folded}
+use Rattle.laws.specs.Columns.{information_columns, parity_row}
 use Rattle.laws.specs.Written.{tabulate, rewritten}
 use Rattle.laws.specs.Floats.{nought, negative, magnitude}
 use Rattle.laws.specs.Run.{Progress, next, run}
@@ -23,17 +23,14 @@ use Rattle.rule.specs.Rule.{started, taken, answered}
 use Rattle.messages.specs.Memory.{bits_of, slots_of, to_checks_at, to_bits_at}
 use Rattle.messages.specs.Iteration.{gathered, answer, to_bit, check_pass, added, total, total_pass, to_check, send_pass, iteration, decision, settled}
 use Rattle.messages.specs.Regions.{memory_of, numbers_of}
-use Rattle.cycles.specs.Cycles.{closes, cycles_among}
 use Rattle.ldpc.specs.declared.choice.Code.{Code}
 use Rattle.ldpc.specs.Choice.{lift_of, code_of, serves, family_code, tried_from, chosen, same_code, made, if_made}
 use Rattle.ldpc.specs.Code.{code_graph, info_end, checks_of, work_of}
-use Rattle.coder.specs.Calls.{unsatisfied_of, encoding_of}
+use Rattle.coder.specs.Calls.{unsatisfied_of}
 use Rattle.channel.specs.Channel.{channel_of, start_memory}
 use Rattle.word.specs.Word.{word_of}
 use Rattle.ahead.specs.Schedules.{flooding, layered, factor_of, layer_to_check, layer_to_bit, layer_total, layer, layers, layered_iteration, step}
 use Rattle.ahead.specs.Decoder.{Decode, iterated, unbroken, record_of, progress_of, eighths_in_force, run_of_grant, lowest_of, lowest_with_word, weighing_step, weighing_run, Lowest, no_lowest, first_lowest, Choices, lowest_after_grant, start_outcome, grant_outcome, read_outcome, preview_outcome, decode_outcome, outcome_by}
-use Rattle.shifts.specs.Generator.{next_state, state_after}
-use Rattle.matrix.specs.Encoding.{info_sum, total_sum, first_parity, parity_bit, encoding}
 use Rattle.decoder.specs.Decoding.{result_of}
 use Rattle.ahead.specs.Claim.{Accepted, sum_of, eighths_at}
 use Rattle.decoder.specs.Calls.{if_work, if_sum}

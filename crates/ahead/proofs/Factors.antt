@@ -1,8 +1,8 @@
 -- Mid-block factor: the factors of a list of accepted grants. Assumes nothing.
-use mathlib.Core.Path.{◌≡◌, ap, ◌∙◌, refl}
-use mathlib.Core.Bool.{cond, ◌&&◌, Bool, true, false}
+use mathlib.Core.Path.{◌≡◌, ap, refl}
+use mathlib.Core.Bool.{cond, Bool, true, false}
 use mathlib.Core.List.{List, [], ◌∷◌, ◌++◌}
-use Prim.Native.Nat.{ℕ, ◌+◌, ◌-◌, ◌<◌, ◌≤◌, ◌/◌, ◌%◌, ◌*◌}
+use Prim.Native.Nat.{ℕ, ◌+◌, ◌-◌, ◌<◌, ◌≤◌}
 use native.Mathlib.Omega.{arith}
 use native.Mathlib.Decide.{dec_le}
 use lib.Dec.{leb}

@@ -19,7 +19,7 @@ use Rattle.ahead.specs.Decoder.{Choices, Decode, Lowest, iterated, unbroken, rec
 use Rattle.ahead.specs.Claim.{preview, Call, grant, read, held_first, after_all, Accepted, sum_of, eighths_at, Owed, unbroken_by, run_so_far, owed_record, owed_eighths, accepted_with, owed_lowest_from, owed_lowest, with_grant, owed_after, owed_all, owed_first, held_at, owed_lowest_first, least_place, BringsSlice, LowestKept, GrantWeighs, CountFits}
 use Rattle.ahead.proofs.Unbroken.{low_same, goes_on, iterated_most, iterated_least}
 use Rattle.ahead.proofs.Lowest.{count_at, LeastOf, least_first, least_is, weigh_least, least_ext, told_all}
-use Rattle.ahead.proofs.Claim.{A, Good, all_room, broken, good_first, good_one, owed_cases, weighed_is}
+use Rattle.ahead.proofs.Claim.{A, all_room, broken, owed_cases, weighed_is}
 use lib.Dec.{eqb}
 use borrow.Author.Tests.{ne_eqb}
 use Rattle.refusals.specs.declared.Numbers.{Numbers}

@@ -1,37 +1,32 @@
 -- The preview: where a grant more would come to, and a grant to the copy. Assumes nothing.
-use Rattle.std.specs.Prelude.{Ok, Err, None, unwrap_or}
+use Rattle.std.specs.Prelude.{Ok, Err, None}
 use mathlib.Core.Path.{◌≡◌, refl, sym, ap, ap₂, ◌∙◌, subst}
-use mathlib.Core.Bool.{Bool, true, false, cond, ◌&&◌}
-use mathlib.Core.List.{List, [], ◌∷◌, ◌++◌, append_assoc}
-use Prim.Native.Nat.{ℕ, ◌+◌, ◌-◌, ◌<◌, ◌≤◌, min}
+use mathlib.Core.Bool.{true}
+use mathlib.Core.List.{List, [], ◌++◌}
+use Prim.Native.Nat.{ℕ, ◌+◌, ◌≤◌, min}
 use native.Mathlib.Omega.{arith}
-use lib.Dec.{eqb, ltb}
 use lib.ListN.{length, take, drop, take-append-drop, length-append}
 use lib.Seq.{length-take-le, take-append-le, take_at, drop_at}
 use lib.Ieee.{Float}
-use borrow.Author.Tests.{le-ltb, ltb-false}
-use Rattle.refusals.specs.Outcome.{Outcome, refused, and_then, after, if_length}
+use borrow.Author.Tests.{le-ltb}
+use Rattle.refusals.specs.Outcome.{Outcome, and_then, after, if_length}
 use Rattle.refusals.specs.declared.Numbers.{Numbers}
 use Rattle.laws.specs.Run.{Progress}
-use Rattle.laws.proofs.Run.{seen}
-use Rattle.messages.specs.Memory.{needed}
 use Rattle.ldpc.specs.declared.choice.Code.{Code}
 use Rattle.ldpc.specs.Choice.{made}
 use Rattle.ldpc.specs.Code.{work_of}
-use Rattle.ldpc.proofs.Refused.{made_passed, made_refused}
+use Rattle.ldpc.proofs.Refused.{made_passed}
 use Rattle.decoder.specs.declared.record.DecodeResult.{DecodeResult}
 use Rattle.word.specs.Word.{word_of}
-use Rattle.coder.specs.Calls.{unsatisfied_of}
 use Rattle.decoder.specs.Decoding.{result_of}
 use Rattle.decoder.specs.Calls.{if_work, if_sum}
-use Rattle.claims.proofs.Whole.{word_append}
 use Rattle.claims.proofs.Cases.{length_cases, work_cases, sum_cases, work_same}
 use Rattle.ahead.specs.Refused.{if_eighths, if_new_eighths, if_slice}
-use Rattle.ahead.specs.Decoder.{Choices, Decode, iterated, record_of, progress_of, lowest_of, eighths_in_force, run_of_grant, lowest_after_grant, grant_outcome, memory_after_grant, read_outcome, word_after_read, preview_outcome, Lowest}
+use Rattle.ahead.specs.Decoder.{Choices, Decode, record_of, progress_of, lowest_of, eighths_in_force, run_of_grant, lowest_after_grant, grant_outcome, memory_after_grant, read_outcome, word_after_read, preview_outcome}
 use Rattle.ahead.specs.Claim.{Accepted, Owed, sum_of, eighths_at, unbroken_by, run_so_far, owed_record, owed_eighths, accepted_with, run_ahead, owed_preview, previewed_word, previewed_copy}
 use Rattle.ahead.specs.Preview.{copy_with_needed, copy_after_preview, word_after_preview, IsAGrant}
 use Rattle.refusals.proofs.Lengths.{length_passed}
-use Rattle.ahead.proofs.Tests.{eighths_passed, work_passed, made_both, eighths_both, work_both, sum_both}
+use Rattle.ahead.proofs.Tests.{eighths_passed, work_passed, made_both, eighths_both, sum_both}
 use Rattle.ahead.proofs.Unbroken.{cut, front_drop, iterated_long, iterated_front, unbroken_front, same_word, same_result, same_iterated, goes_on}
 use Rattle.ahead.proofs.Factors.{same_force}
 

@@ -1,10 +1,8 @@
 -- The tests of the refusals 12 to 19, passed and by cases; their numbers. Assumes nothing.
 use Rattle.std.specs.Prelude.{Ok, Err, Option, Some, None}
-use mathlib.Core.Path.{◌≡◌, refl, ◌∙◌, ap}
-use mathlib.Core.Bool.{Bool, true, false, cond, ◌&&◌}
-use mathlib.Core.List.{[], ◌∷◌, ◌++◌}
-use Prim.Native.Nat.{ℕ, ◌+◌, ◌-◌, ◌<◌, ◌≤◌}
-use native.Mathlib.Omega.{arith}
+use mathlib.Core.Path.{◌≡◌, refl, ap}
+use mathlib.Core.Bool.{Bool, true, false, cond}
+use Prim.Native.Nat.{ℕ, ◌≤◌}
 use lib.Dec.{ltb, eqb}
 use borrow.Author.Tests.{le-ltb, ltb-false, lt-ltb, eqb-true}
 use Rattle.refusals.specs.Outcome.{Outcome, refused, and_then, if_length}

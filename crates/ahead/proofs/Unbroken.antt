@@ -2,10 +2,10 @@
 use mathlib.Core.Path.{◌≡◌, refl, sym, ap, ap₂, ◌∙◌}
 use mathlib.Core.Bool.{Bool, true, false, ◌&&◌}
 use mathlib.Core.List.{List, [], ◌∷◌, ◌++◌}
-use Prim.Native.Nat.{ℕ, ◌+◌, ◌-◌, ◌<◌, ◌≤◌, ◌*◌, ◌/◌, ◌%◌}
+use Prim.Native.Nat.{ℕ, ◌+◌, ◌≤◌}
 use native.Mathlib.Omega.{arith}
 use lib.Dec.{eqb}
-use lib.ListN.{length, take, drop, take-append-drop, length-drop}
+use lib.ListN.{length, take, drop, take-append-drop}
 use lib.Seq.{length-take-le, take_at, drop_at}
 use lib.Ieee.{Float}
 use Rattle.laws.specs.Run.{Progress, run}
@@ -19,7 +19,6 @@ use Rattle.ldpc.specs.Choice.{made}
 use Rattle.ldpc.specs.Code.{code_graph, work_of}
 use Rattle.ldpc.proofs.Made.{sized}
 use Rattle.ldpc.proofs.CodeEdges.{code_simple}
-use Rattle.decoder.specs.declared.record.DecodeResult.{DecodeResult}
 use Rattle.channel.specs.Channel.{start_memory}
 use Rattle.word.specs.Word.{word_of}
 use Rattle.coder.specs.Calls.{unsatisfied_of}
@@ -27,10 +26,9 @@ use Rattle.decoder.specs.Decoding.{result_of}
 use Rattle.claims.proofs.Whole.{start_front, word_lent}
 use Rattle.ahead.specs.Schedules.{Schedule, factor_of, step}
 use Rattle.ahead.specs.Decoder.{Choices, iterated, unbroken}
-use Rattle.ahead.specs.Claim.{Accepted, sum_of, eighths_at, unbroken_by, run_so_far, grant, read}
+use Rattle.ahead.specs.Claim.{Accepted, sum_of, eighths_at, unbroken_by, run_so_far}
 use Rattle.ahead.proofs.Layered.{step_front}
 use Rattle.ahead.proofs.Runs.{run_least, run_same, run_going}
-use mathlib.Core.Logic.{◌↔◌}
 use Rattle.claims.proofs.Anywhere.{same_start}
 use Rattle.ahead.specs.OneCall.{Anywhere, FirstSchedule}
 use Rattle.runs.specs.Runs as R
