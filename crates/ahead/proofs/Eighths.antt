@@ -24,7 +24,10 @@ eighths_are_factors (suc (suc zero)) h k = record { above = refl; finite = refl;
 eighths_are_factors (suc (suc (suc zero))) h k = record { above = refl; finite = refl; fit = refl }
 eighths_are_factors (suc (suc (suc (suc zero)))) h k = record { above = refl; finite = refl; fit = refl }
 eighths_are_factors (suc (suc (suc (suc (suc zero))))) h k = record { above = refl; finite = refl; fit = refl }
-eighths_are_factors (suc (suc (suc (suc (suc (suc zero)))))) h k = record { above = refl; finite = refl; fit = refl }
-eighths_are_factors (suc (suc (suc (suc (suc (suc (suc zero))))))) h k = record { above = refl; finite = refl; fit = refl }
-eighths_are_factors (suc (suc (suc (suc (suc (suc (suc (suc zero)))))))) h k = record { above = refl; finite = refl; fit = refl }
+eighths_are_factors (suc (suc (suc (suc (suc (suc zero)))))) h k =
+    record { above = refl; finite = refl; fit = refl }
+eighths_are_factors (suc (suc (suc (suc (suc (suc (suc zero))))))) h k =
+    record { above = refl; finite = refl; fit = refl }
+eighths_are_factors (suc (suc (suc (suc (suc (suc (suc (suc zero)))))))) h k =
+    record { above = refl; finite = refl; fit = refl }
 eighths_are_factors (suc (suc (suc (suc (suc (suc (suc (suc (suc e))))))))) h k = absurd (omega arith)

@@ -31,10 +31,13 @@ use Rattle.laws.proofs.Collect.{count_most}
 use Rattle.matrix.specs.Checks.{check_sum, lifted, unmet}
 
 -- ---- the least count over a list whose calls all brought the slice
-module _ (c : Code) (m : made c ≡ true) (ch : Choices) (rx w : List Float) (enough : work_of c ≤ length w) (word : List ℕ) where
+module _ (c : Code) (m : made c ≡ true) (ch : Choices) (rx w : List Float) (enough : work_of c ≤ length w)
+    (word : List ℕ) where
   -- what is read at i, weighed there
   abbrev read_at : List Accepted → ℕ → Lowest
-  read_at l i = let read = word_of c (unbroken_by c ch rx w l i).memory in record { count = unsatisfied_of c read; at = i; word = read }
+  read_at l i =
+      let read = word_of c (unbroken_by c ch rx w l i).memory in
+      record { count = unsatisfied_of c read; at = i; word = read }
 
   abbrev Least : Owed → Type 0
   Least o = LeastOf (read_at o.accepted) (run_so_far c ch rx w o.accepted).iterations o.lowest
@@ -44,11 +47,13 @@ module _ (c : Code) (m : made c ≡ true) (ch : Choices) (rx w : List Float) (en
   reached_most l =
       omega (
         arith,
-        iterated_most c ch.schedule (λ i. eighths_at l (i + 1)) (sum_of l) (record { memory = start_memory c rx w; iterations = 0; converged = false }),
+        iterated_most c ch.schedule (λ i. eighths_at l (i + 1)) (sum_of l) (record { memory =
+            start_memory c rx w; iterations = 0; converged = false }),
       )
 
   -- and no fewer after one grant more
-  reached_rises : (l : List Accepted) (a : Accepted) → (run_so_far c ch rx w l).iterations ≤ (run_so_far c ch rx w (l ++ (a ∷ []))).iterations
+  reached_rises : (l : List Accepted) (a : Accepted)
+      → (run_so_far c ch rx w l).iterations ≤ (run_so_far c ch rx w (l ++ (a ∷ []))).iterations
   reached_rises l a =
       omega (
         arith,
@@ -56,7 +61,8 @@ module _ (c : Code) (m : made c ≡ true) (ch : Choices) (rx w : List Float) (en
         ap (λ p. p.iterations) (goes_on c ch rx w l a),
       )
 
-  least_grant : (o : Owed) → Least o → (g : ℕ) (brought : Option ℕ) (k : ℕ) → Least (with_grant c ch rx w o g brought (Some k))
+  least_grant : (o : Owed) → Least o → (g : ℕ) (brought : Option ℕ) (k : ℕ)
+      → Least (with_grant c ch rx w o g brought (Some k))
   unfolding owed_lowest accepted_with
   least_grant o L g brought k =
       let a : Accepted = record { g = g; eighths = owed_eighths c ch rx w o brought } in
@@ -66,41 +72,53 @@ module _ (c : Code) (m : made c ≡ true) (ch : Choices) (rx w : List Float) (en
       let before_less : before ≤ sum_of o.accepted = reached_most o.accepted in
       let L' : LeastOf (read_at more) before o.lowest
       = least_ext (read_at o.accepted) (read_at more) before o.lowest
-      (λ i h. ap (λ (p : Progress (List Float)). record { count = unsatisfied_of c (word_of c p.memory); at = i; word = word_of c p.memory })
+      (λ i h. ap (λ (p : Progress (List Float)).
+      record { count = unsatisfied_of c (word_of c p.memory); at = i; word = word_of c p.memory })
       (sym (low_same c ch rx w o.accepted a i (omega (arith, before_less))))) L in
-      let all : before + n ≡ (run_so_far c ch rx w more).iterations = omega (arith, reached_rises o.accepted a) in
+      let all : before + n ≡ (run_so_far c ch rx w more).iterations =
+      omega (arith, reached_rises o.accepted a) in
       subst (λ (i : ℕ). LeastOf (read_at more) i (owed_lowest_from c ch rx w more before n o.lowest)) all
-      (subst (LeastOf (read_at more) (before + n)) (sym (weighed_is c m ch rx w enough word more before n o.lowest))
-      (weigh_least (read_at more) c (λ j. (unbroken_by c ch rx w more (before + j)).memory) before before n o.lowest L' (λ j x y. refl)))
+      (subst (LeastOf (read_at more) (before + n))
+      (sym (weighed_is c m ch rx w enough word more before n o.lowest))
+      (weigh_least (read_at more) c (λ j. (unbroken_by c ch rx w more (before + j)).memory) before before n
+      o.lowest L' (λ j x y. refl)))
 
-  least_one : (o : Owed) → Least o → (g : ℕ) (brought : Option ℕ) (k lent : ℕ) → Least (owed_after c ch rx w (length word) o (grant g brought (Some k) lent))
+  least_one : (o : Owed) → Least o → (g : ℕ) (brought : Option ℕ) (k lent : ℕ)
+      → Least (owed_after c ch rx w (length word) o (grant g brought (Some k) lent))
   unfolding owed_after
   least_one o L g brought k lent =
-      owed_cases c ch rx w (length word) o g brought (Some k) lent (λ t. Least (after t (λ _. with_grant c ch rx w o g brought (Some k)) o)) (λ n. L)
+      owed_cases c ch rx w (length word) o g brought (Some k) lent
+      (λ t. Least (after t (λ _. with_grant c ch rx w o g brought (Some k)) o)) (λ n. L)
       (λ f B h. least_grant o L g brought k)
 
-  least_all : (o : Owed) → Least o → (calls : List Call) → BringsSlice calls → Least (owed_all c ch rx w (length word) o calls)
+  least_all : (o : Owed) → Least o → (calls : List Call) → BringsSlice calls
+      → Least (owed_all c ch rx w (length word) o calls)
   unfolding owed_all owed_after
   least_all o L [] B = L
   least_all o L (grant g brought None lent ∷ calls) B = absurd B
   least_all o L (grant g brought (Some k) lent ∷ calls) B =
-      least_all (owed_after c ch rx w (length word) o (grant g brought (Some k) lent)) (least_one o L g brought k lent) calls B
+      least_all (owed_after c ch rx w (length word) o (grant g brought (Some k) lent))
+      (least_one o L g brought k lent) calls B
   least_all o L (read lent out ∷ calls) B = least_all o L calls B
   least_all o L (preview g lent copy out ∷ calls) B = least_all o L calls B
 
 pub lowest_kept : LowestKept
-unfolding owed_first held_at owed_record record_of run_so_far unbroken_by unbroken iterated run sum_of first_lowest
+unfolding owed_first held_at owed_record record_of run_so_far unbroken_by unbroken iterated run sum_of
+    first_lowest
 lowest_kept c ch rx w k word lent d start calls B =
     let S = A c ch rx w (Some k) word lent d start in
     let room = all_room c ch rx w (Some k) word lent d start in
     let first : Owed = owed_first c ch rx w (owed_lowest_first c rx w (Some k) word) in
     let o : Owed = owed_all c ch rx w (length word) first calls in
     let at : ℕ → Lowest = λ i. read_at c S.code_made ch rx w room word o.accepted i in
-    let starts : LeastOf (λ i. read_at c S.code_made ch rx w room word [] i) 0 (owed_lowest_first c rx w (Some k) word) = least_first _ in
+    let starts : LeastOf (λ i. read_at c S.code_made ch rx w room word [] i) 0
+    (owed_lowest_first c rx w (Some k) word) = least_first _ in
     let L = least_all c S.code_made ch rx w room word first starts calls B in
     let held = (broken c ch rx w (Some k) word lent d start calls).1 in
-    let is : o.lowest ≡ at (least_place (count_at at) (after_all (held_first d c ch rx (Some k) word w lent) calls).decode.iterations)
-    = least_is at (run_so_far c ch rx w o.accepted).iterations o.lowest L ∙ ap (λ (i : ℕ). at (least_place (count_at at) i)) (sym (ap (λ h. h.decode.iterations) held)) in (
+    let is : o.lowest ≡ at
+    (least_place (count_at at) (after_all (held_first d c ch rx (Some k) word w lent) calls).decode.iterations)
+    = least_is at (run_so_far c ch rx w o.accepted).iterations o.lowest L
+    ∙ ap (λ (i : ℕ). at (least_place (count_at at) i)) (sym (ap (λ h. h.decode.iterations) held)) in (
       ap (λ h. h.decode.lowest_at) held ∙ ap (λ x. x.at) is,
       ap (λ h. h.decode.lowest) held ∙ ap (λ x. x.count) is,
       ap (λ h. h.word) held ∙ ap (λ (x : Lowest). x.word ++ drop c.n_tx word) is,
@@ -128,10 +146,12 @@ module _ (d : Decode) (g : ℕ) (brought : Option ℕ) (word : List ℕ) (w : Li
       }
 
   candidate_after : (i : ℕ) → 1 ≤ i
-      → record { count = unsatisfied_of c (word_of c (run_to i).memory); at = d.iterations + i; word = word_of c (run_to i).memory } ≡ candidate i
+      → record { count = unsatisfied_of c (word_of c (run_to i).memory); at = d.iterations + i;
+      word = word_of c (run_to i).memory } ≡ candidate i
   candidate_after i h = rw (ne_eqb i 0 (omega arith)) refl
 
-  weighs : lowest_after_grant d g brought (Some word) w ≡ candidate (least_place (count_at candidate) ((run_to g).iterations - d.iterations))
+  weighs : lowest_after_grant d g brought (Some word) w
+      ≡ candidate (least_place (count_at candidate) ((run_to g).iterations - d.iterations))
   unfolding lowest_after_grant run_of_grant progress_of
   weighs =
       let n : ℕ = (run_to g).iterations - d.iterations in
@@ -147,7 +167,9 @@ module _ (d : Decode) (g : ℕ) (brought : Option ℕ) (word : List ℕ) (w : Li
       let least = candidate (least_place (count_at candidate) (x.iterations - d.iterations)) in
       (x.lowest ≡ least.count) × (x.lowest_at ≡ least.at) × (left ≡ least.word)
 
-  record_weighs : Weighs (record_of c d.schedule (eighths_in_force d brought) (lowest_after_grant d g brought (Some word) w) (run_to g)) (lowest_after_grant d g brought (Some word) w).word
+  record_weighs : Weighs
+      (record_of c d.schedule (eighths_in_force d brought) (lowest_after_grant d g brought (Some word) w)
+      (run_to g)) (lowest_after_grant d g brought (Some word) w).word
   unfolding record_of
   record_weighs = (ap (λ y. y.count) weighs, ap (λ y. y.at) weighs, ap (λ y. y.word) weighs)
 
@@ -161,15 +183,20 @@ grant_weighs d g brought word w x e =
     work_cases P refusal d.code (length w) (λ h. sum_cases P refusal (d.iterations + g) given))))) e
   where
     P : Outcome Decode → Type 0
-    P t = t ≡ Ok x → Weighs d g brought word w x (after t (λ _. (lowest_after_grant d g brought (Some word) w).word) word)
+    P t =
+        t ≡ Ok x → Weighs d g brought word w x
+        (after t (λ _. (lowest_after_grant d g brought (Some word) w).word) word)
 
     refusal : (n : Numbers) → P (Err n)
     refusal n = never n
 
-    given : P (Ok (record_of d.code d.schedule (eighths_in_force d brought) (lowest_after_grant d g brought (Some word) w) (run_of_grant d g brought w)))
+    given : P (Ok (record_of d.code d.schedule (eighths_in_force d brought)
+        (lowest_after_grant d g brought (Some word) w) (run_of_grant d g brought w)))
     given q =
-        let is : record_of d.code d.schedule (eighths_in_force d brought) (lowest_after_grant d g brought (Some word) w) (run_of_grant d g brought w) ≡ x = cc in
-        subst (λ y. Weighs d g brought word w y (lowest_after_grant d g brought (Some word) w).word) is (record_weighs d g brought word w)
+        let is : record_of d.code d.schedule (eighths_in_force d brought)
+        (lowest_after_grant d g brought (Some word) w) (run_of_grant d g brought w) ≡ x = cc in
+        subst (λ y. Weighs d g brought word w y (lowest_after_grant d g brought (Some word) w).word) is
+        (record_weighs d g brought word w)
 
 -- ---- a count of failed checks fits
 pub count_fits : CountFits
@@ -177,6 +204,7 @@ unfolding unsatisfied_of unmet checks_of
 count_fits code m word =
     omega (
       arith,
-      count_most (check_sum (code_graph code) code.z (lifted code.k (info_end code) word)) ((code_graph code).shape.m_b * code.z),
+      count_most (check_sum (code_graph code) code.z (lifted code.k (info_end code) word))
+      ((code_graph code).shape.m_b * code.z),
       (code_sizes code m).checks_most,
     )

@@ -31,7 +31,8 @@ use Rattle.ahead.proofs.Unbroken.{cut, front_drop, iterated_long, iterated_front
 use Rattle.ahead.proofs.Factors.{same_force}
 
 -- ---- a preview of what is held after a list of calls
-module _ (c : Code) (m : made c ≡ true) (ch : Choices) (rx w : List Float) (enough : work_of c ≤ length w) (o : Owed) (g lent : ℕ)
+module _ (c : Code) (m : made c ≡ true) (ch : Choices) (rx w : List Float) (enough : work_of c ≤ length w)
+    (o : Owed) (g lent : ℕ)
     (copy : List Float) where
   abbrev W : ℕ
   W = work_of c
@@ -50,7 +51,9 @@ module _ (c : Code) (m : made c ≡ true) (ch : Choices) (rx w : List Float) (en
 
   here_long : W ≤ length here.memory
   unfolding run_so_far unbroken_by
-  here_long = omega (arith, (unbroken_front c m ch.schedule (λ i. eighths_at o.accepted (i + 1)) (sum_of o.accepted) rx).long w enough)
+  here_long =
+      omega (arith, (unbroken_front c m ch.schedule (λ i. eighths_at o.accepted (i + 1)) (sum_of o.accepted)
+      rx).long w enough)
 
   there_long : W ≤ length there.memory
   unfolding run_ahead run_so_far unbroken_by
@@ -60,20 +63,27 @@ module _ (c : Code) (m : made c ≡ true) (ch : Choices) (rx w : List Float) (en
 
   module _ (v : List Float) (long : W ≤ length v) (same : take W v ≡ take W here.memory) where
     granted_cut : cut c (granted_in v) ≡ cut c there
-    unfolding run_of_grant eighths_in_force progress_of owed_record record_of run_ahead accepted_with owed_eighths
+    unfolding run_of_grant eighths_in_force progress_of owed_record record_of run_ahead accepted_with
+        owed_eighths
     granted_cut =
-        same_iterated c m (record { memory = v; iterations = here.iterations; converged = here.converged }) here long here_long
-        (ap (λ (u : List Float). record { memory = u; iterations = here.iterations; converged = here.converged }) same) ch.schedule
+        same_iterated c m (record { memory =
+            v; iterations = here.iterations; converged = here.converged }) here long here_long
+        (ap (λ (u : List Float).
+        record { memory = u; iterations = here.iterations; converged = here.converged }) same) ch.schedule
         (λ i. owed_eighths c ch rx w o None) g
         ∙ ap (cut c) (goes_on c ch rx w o.accepted (record { g = g; eighths = owed_eighths c ch rx w o None }))
 
     granted_long : W ≤ length (granted_in v).memory
     unfolding run_of_grant progress_of owed_record record_of
-    granted_long = omega (arith, iterated_long c m ch.schedule (λ i. eighths_in_force (owed_record c ch rx w o) None) g (progress_of (owed_record c ch rx w o) v) long, long)
+    granted_long =
+        omega (arith, iterated_long c m ch.schedule (λ i. eighths_in_force (owed_record c ch rx w o) None) g
+        (progress_of (owed_record c ch rx w o) v) long, long)
 
     granted_past : drop W (granted_in v).memory ≡ drop W v
     unfolding run_of_grant progress_of owed_record record_of
-    granted_past = front_drop (iterated_front c m ch.schedule (λ i. eighths_in_force (owed_record c ch rx w o) None) g here.iterations here.converged) v long
+    granted_past =
+        front_drop (iterated_front c m ch.schedule (λ i. eighths_in_force (owed_record c ch rx w o) None) g
+        here.iterations here.converged) v long
 
     result_there : result_of c (granted_in v) ≡ result_of c there
     result_there = same_result c m (granted_in v) there granted_long there_long granted_cut
@@ -82,25 +92,31 @@ module _ (c : Code) (m : made c ≡ true) (ch : Choices) (rx w : List Float) (en
     word_there = same_word c m (granted_in v) there granted_long there_long granted_cut
 
     memory_there : (granted_in v).memory ≡ take W there.memory ++ drop W v
-    memory_there = sym (take-append-drop W (granted_in v).memory) ∙ ap₂ ◌++◌ (ap (λ p. p.memory) granted_cut) granted_past
+    memory_there =
+        sym (take-append-drop W (granted_in v).memory) ∙ ap₂ ◌++◌ (ap (λ p. p.memory) granted_cut) granted_past
 
   lent_same : W ≤ length lent_memory → take W lent_memory ≡ take W here.memory
   lent_same h =
-      sym (take-append-le W lent_memory (drop lent here.memory) h) ∙ ap (take W) (take-append-drop lent here.memory)
+      sym (take-append-le W lent_memory (drop lent here.memory) h)
+      ∙ ap (take W) (take-append-drop lent here.memory)
 
   module _ (low : 1 ≤ o.eighths) (high : o.eighths ≤ 8) (given : length lent_memory ≡ min lent (length w)) where
-    pub preview_told : (room : ℕ) → preview_outcome (owed_record c ch rx w o) g lent_memory copy room ≡ owed_preview c ch rx w o g lent copy room
+    pub preview_told : (room : ℕ) → preview_outcome (owed_record c ch rx w o) g lent_memory copy room
+        ≡ owed_preview c ch rx w o g lent copy room
     unfolding preview_outcome owed_preview owed_record record_of
     preview_told room =
         made_passed _ c m
         ∙ ap (if_length 9 room c.n_tx)
         (eighths_passed o.eighths _ low high
         ∙ work_same c (length lent_memory) _ _
-        (λ h. ap (λ r. if_work c (length copy) (if_sum (here.iterations + g) (Ok r))) (result_there lent_memory h (lent_same h)))
-        ∙ ap (λ n. if_work c n (if_work c (length copy) (if_sum (here.iterations + g) (Ok (result_of c there))))) given)
+        (λ h. ap (λ r. if_work c (length copy) (if_sum (here.iterations + g) (Ok r)))
+        (result_there lent_memory h (lent_same h)))
+        ∙ ap (λ n. if_work c n
+        (if_work c (length copy) (if_sum (here.iterations + g) (Ok (result_of c there))))) given)
 
     -- where it is accepted, the memory was lent far enough
-    told_cases : (P : Outcome DecodeResult → Type 0) → ((n : Numbers) → P (Err n)) → (W ≤ length lent_memory → P (Ok (result_of c there)))
+    told_cases : (P : Outcome DecodeResult → Type 0) → ((n : Numbers) → P (Err n))
+        → (W ≤ length lent_memory → P (Ok (result_of c there)))
         → (room : ℕ) → P (owed_preview c ch rx w o g lent copy room)
     unfolding owed_preview
     told_cases P refusal p room =
@@ -109,28 +125,34 @@ module _ (c : Code) (m : made c ≡ true) (ch : Choices) (rx w : List Float) (en
         work_cases P refusal c (length copy) (λ k. sum_cases P refusal (here.iterations + g) (p (rw given h)))))
 
     pub preview_word : (out : List ℕ)
-        → word_after_preview (owed_record c ch rx w o) g lent_memory copy out ≡ previewed_word c ch rx w o g lent copy out
+        → word_after_preview (owed_record c ch rx w o) g lent_memory copy out
+        ≡ previewed_word c ch rx w o g lent copy out
     unfolding word_after_preview previewed_word owed_record record_of
     preview_word out =
         ap (λ t. after t (λ _. word_of c (granted_in lent_memory).memory) out) (preview_told (length out))
-        ∙ told_cases (λ t. after t (λ _. word_of c (granted_in lent_memory).memory) out ≡ after t (λ _. word_of c there.memory) out) (λ n. refl)
+        ∙ told_cases (λ t. after t (λ _. word_of c (granted_in lent_memory).memory) out
+        ≡ after t (λ _. word_of c there.memory) out) (λ n. refl)
         (λ h. word_there lent_memory h (lent_same h)) (length out)
 
     pub preview_copy : (room : ℕ)
-        → copy_after_preview (owed_record c ch rx w o) g lent_memory copy room ≡ previewed_copy c ch rx w o g lent copy room
+        → copy_after_preview (owed_record c ch rx w o) g lent_memory copy room
+        ≡ previewed_copy c ch rx w o g lent copy room
     unfolding copy_after_preview previewed_copy copy_with_needed owed_record record_of
     preview_copy room =
         let v : List Float = take W lent_memory ++ drop W copy in
         ap (λ t. after t (λ _. (granted_in v).memory) copy) (preview_told room)
-        ∙ told_cases (λ t. after t (λ _. (granted_in v).memory) copy ≡ after t (λ _. take W there.memory ++ drop W copy) copy) (λ n. refl)
+        ∙ told_cases (λ t. after t (λ _. (granted_in v).memory) copy
+        ≡ after t (λ _. take W there.memory ++ drop W copy) copy) (λ n. refl)
         (λ h.
         let long = length-take-le W lent_memory h in
         let v_long : W ≤ length v = omega (arith, length-append (take W lent_memory) (drop W copy), long) in
         memory_there v v_long (take_at (take W lent_memory) (drop W copy) W long ∙ lent_same h)
-        ∙ ap (λ (x : List Float). take W there.memory ++ x) (drop_at (take W lent_memory) (drop W copy) W long)) room
+        ∙ ap (λ (x : List Float). take W there.memory ++ x) (drop_at (take W lent_memory) (drop W copy) W long))
+        room
 
 -- ---- a preview is a grant to the copy and a read
-module _ (d : Decode) (g : ℕ) (w copy : List Float) (out : List ℕ) (room : work_of d.code ≤ length w) (room' : work_of d.code ≤ length copy)
+module _ (d : Decode) (g : ℕ) (w copy : List Float) (out : List ℕ) (room : work_of d.code ≤ length w)
+    (room' : work_of d.code ≤ length copy)
     (long : length out ≡ d.code.n_tx) where
   abbrev needs : ℕ
   needs = work_of d.code
@@ -145,15 +167,19 @@ module _ (d : Decode) (g : ℕ) (w copy : List Float) (out : List ℕ) (room : w
   unfolding copy_with_needed
   v_long = omega (arith, length-append (take needs w) (drop needs copy), take_long)
 
-  left_long : made d.code ≡ true → (u : List Float) → needs ≤ length u → needs ≤ length (run_of_grant d g None u).memory
+  left_long : made d.code ≡ true → (u : List Float) → needs ≤ length u
+      → needs ≤ length (run_of_grant d g None u).memory
   unfolding run_of_grant progress_of
-  left_long m u h = omega (arith, iterated_long d.code m d.schedule (λ i. eighths_in_force d None) g (progress_of d u) h, h)
+  left_long m u h =
+      omega (arith, iterated_long d.code m d.schedule (λ i. eighths_in_force d None) g (progress_of d u) h, h)
 
   same_cut : made d.code ≡ true → cut d.code (run_of_grant d g None w) ≡ cut d.code (run_of_grant d g None v)
   unfolding run_of_grant progress_of copy_with_needed
   same_cut m =
       same_iterated d.code m (progress_of d w) (progress_of d v) room v_long
-      (ap (λ (u : List Float). progress_of d u) (sym (take_at (take needs w) (drop needs copy) needs take_long))) d.schedule (λ i. eighths_in_force d None) g
+      (ap (λ (u : List Float). progress_of d u)
+      (sym (take_at (take needs w) (drop needs copy) needs take_long))) d.schedule
+      (λ i. eighths_in_force d None) g
 
   -- the cases: 11, 13, 10, and the grant
   Goal : Outcome DecodeResult → Outcome Decode → Type 0
@@ -161,7 +187,8 @@ module _ (d : Decode) (g : ℕ) (w copy : List Float) (out : List ℕ) (room : w
       let left = after t (λ _. (run_of_grant d g None v).memory) v in
       (p ≡ and_then t (λ e. read_outcome e left (length out)))
       × (after p (λ _. (run_of_grant d g None v).memory) copy ≡ after t (λ _. left) copy)
-      × (after p (λ _. word_of d.code (run_of_grant d g None w).memory) out ≡ after t (λ e. word_after_read e left out) out)
+      × (after p (λ _. word_of d.code (run_of_grant d g None w).memory) out
+      ≡ after t (λ e. word_after_read e left out) out)
 
   refusals : (n : Numbers) → Goal (Err n) (Err n)
   unfolding Goal
@@ -171,7 +198,8 @@ module _ (d : Decode) (g : ℕ) (w copy : List Float) (out : List ℕ) (room : w
   rec = record_of d.code d.schedule (eighths_in_force d None) (lowest_of d []) (run_of_grant d g None v)
 
   module _ (m : made d.code ≡ true) (low : 1 ≤ d.eighths) (high : d.eighths ≤ 8) where
-    read_is : read_outcome rec (run_of_grant d g None v).memory (length out) ≡ Ok (result_of d.code (run_of_grant d g None v))
+    read_is : read_outcome rec (run_of_grant d g None v).memory (length out)
+        ≡ Ok (result_of d.code (run_of_grant d g None v))
     unfolding read_outcome record_of progress_of if_work result_of
     read_is =
         let f = same_force d in
@@ -192,11 +220,14 @@ module _ (d : Decode) (g : ℕ) (w copy : List Float) (out : List ℕ) (room : w
   unfolding preview_outcome grant_outcome if_slice if_new_eighths lowest_after_grant
   tested =
       made_both Goal refusals d.code (λ m.
-      subst (λ p. Goal p (if_eighths d.eighths (if_work d.code (length v) (if_sum (d.iterations + g) (Ok rec))))) (sym (length_passed _ 9 (length out) d.code.n_tx long))
+      subst (λ p. Goal p (if_eighths d.eighths
+      (if_work d.code (length v) (if_sum (d.iterations + g) (Ok rec)))))
+      (sym (length_passed _ 9 (length out) d.code.n_tx long))
       (eighths_both Goal refusals d.eighths (λ e.
       subst (λ p. Goal p (if_work d.code (length v) (if_sum (d.iterations + g) (Ok rec))))
       (sym (work_passed d.code (length w) room _ ∙ work_passed d.code (length copy) room' _))
-      (subst (λ t. Goal (if_sum (d.iterations + g) (Ok (result_of d.code (run_of_grant d g None w)))) t) (sym (work_passed d.code (length v) v_long _))
+      (subst (λ t. Goal (if_sum (d.iterations + g) (Ok (result_of d.code (run_of_grant d g None w)))) t)
+      (sym (work_passed d.code (length v) v_long _))
       (sum_both Goal refusals (d.iterations + g) (accepted m e.0 e.1))))))
 
 pub is_a_grant : IsAGrant

@@ -32,32 +32,42 @@ use Rattle.refusals.proofs.Lengths.{length_passed}
 use Rattle.ahead.specs.Refused.{if_slice}
 
 -- ---- a read, of the record that is held: whatever its lowest count
-module _ (c : Code) (m : made c ≡ true) (ch : Choices) (rx w : List Float) (l : List Accepted) (e lent : ℕ) (low : 1 ≤ e) (high : e ≤ 8)
+module _ (c : Code) (m : made c ≡ true) (ch : Choices) (rx w : List Float) (l : List Accepted) (e lent : ℕ)
+    (low : 1 ≤ e) (high : e ≤ 8)
     (given : length (take lent (run_so_far c ch rx w l).memory) ≡ min lent (length w)) (x : Lowest) where
-  pub read_told : (room : ℕ) → read_outcome (record_of c ch.schedule e x (run_so_far c ch rx w l)) (take lent (run_so_far c ch rx w l).memory) room
+  pub read_told : (room : ℕ)
+      → read_outcome (record_of c ch.schedule e x (run_so_far c ch rx w l))
+      (take lent (run_so_far c ch rx w l).memory) room
       ≡ owed_read c ch rx w l lent room
   unfolding read_outcome owed_read record_of progress_of result_of
   read_told room =
       made_passed _ c m
       ∙ ap (if_length 9 room c.n_tx)
       (eighths_passed e _ low high
-      ∙ work_same c (length (take lent (run_so_far c ch rx w l).memory)) _ _ (λ h. rw (word_lent c m lent (run_so_far c ch rx w l).memory h))
+      ∙ work_same c (length (take lent (run_so_far c ch rx w l).memory)) _ _
+      (λ h. rw (word_lent c m lent (run_so_far c ch rx w l).memory h))
       ∙ ap (λ n. if_work c n (Ok (result_of c (run_so_far c ch rx w l)))) given)
 
-  pub read_word : (out : List ℕ) → word_after_read (record_of c ch.schedule e x (run_so_far c ch rx w l)) (take lent (run_so_far c ch rx w l).memory) out
+  pub read_word : (out : List ℕ)
+      → word_after_read (record_of c ch.schedule e x (run_so_far c ch rx w l))
+      (take lent (run_so_far c ch rx w l).memory) out
       ≡ owed_word c ch rx w l lent out
   unfolding word_after_read owed_word owed_read record_of
   read_word out =
-      ap (λ t. after t (λ _. word_of c (take lent (run_so_far c ch rx w l).memory)) out) (read_told (length out))
+      ap (λ t. after t (λ _. word_of c (take lent (run_so_far c ch rx w l).memory)) out)
+      (read_told (length out))
       ∙ length_cases same (λ n. refl) 9 (length out) c.n_tx
-      (λ e. work_cases same (λ n. refl) c (min lent (length w)) (λ h. word_lent c m lent (run_so_far c ch rx w l).memory (rw given h)))
+      (λ e. work_cases same (λ n. refl) c (min lent (length w))
+      (λ h. word_lent c m lent (run_so_far c ch rx w l).memory (rw given h)))
     where
       same : Outcome DecodeResult → Type 0
       same t =
-          after t (λ _. word_of c (take lent (run_so_far c ch rx w l).memory)) out ≡ after t (λ _. word_of c (run_so_far c ch rx w l).memory) out
+          after t (λ _. word_of c (take lent (run_so_far c ch rx w l).memory)) out
+          ≡ after t (λ _. word_of c (run_so_far c ch rx w l).memory) out
 
 -- what an accepted one gives
-module _ (c : Code) (ch : Choices) (rx w : List Float) (l : List Accepted) (lent : ℕ) (out : List ℕ) (r : DecodeResult) (word : List ℕ) where
+module _ (c : Code) (ch : Choices) (rx w : List Float) (l : List Accepted) (lent : ℕ) (out : List ℕ)
+    (r : DecodeResult) (word : List ℕ) where
   gives : (room : ℕ) → owed_read c ch rx w l lent room ≡ Ok r → result_of c (run_so_far c ch rx w l) ≡ r
   unfolding owed_read
   gives room = length_cases P never 9 room c.n_tx (λ e. work_cases P never c (min lent (length w)) (λ h k. cc))
@@ -69,7 +79,8 @@ module _ (c : Code) (ch : Choices) (rx w : List Float) (l : List Accepted) (lent
       → (r ≡ result_of c (run_so_far c ch rx w l)) × (word ≡ word_of c (run_so_far c ch rx w l).memory)
   unfolding owed_word
   read_gives told wrote =
-      (sym (gives (length out) told), sym wrote ∙ ap (λ t. after t (λ _. word_of c (run_so_far c ch rx w l).memory) out) told)
+      (sym (gives (length out) told), sym wrote
+      ∙ ap (λ t. after t (λ _. word_of c (run_so_far c ch rx w l).memory) out) told)
 
 -- ---- clean
 read_given : (d : Decode) (w : List Float) (room : ℕ) (x : DecodeResult) → read_outcome d w room ≡ Ok x
@@ -88,7 +99,8 @@ Encoded : Code → List ℕ → Type 0
 Encoded c word = word ≡ encoding_of c (take c.k word)
 
 clean_result : (d : Decode) (w : List Float) → made d.code ≡ true
-    → ((result_of d.code (progress_of d w)).clean ≡ true) ↔ (((result_of d.code (progress_of d w)).converged ≡ true) × Encoded d.code (word_of d.code w))
+    → ((result_of d.code (progress_of d w)).clean ≡ true) ↔
+    (((result_of d.code (progress_of d w)).converged ≡ true) × Encoded d.code (word_of d.code w))
 unfolding result_of progress_of Encoded
 clean_result d w m =
     let word = codeword d.code m (word_of d.code w) (word_long d.code w) (word_bits d.code w) in
@@ -99,15 +111,18 @@ pub clean_is_encoded : CleanIsEncoded
 unfolding word_after_read Encoded
 clean_is_encoded d w out x e =
     let (m, is) = read_given d w (length out) x e in
-    subst (λ (r : DecodeResult). (r.clean ≡ true) ↔ ((r.converged ≡ true) × Encoded d.code (word_after_read d w out))) is
+    subst (λ (r : DecodeResult). (r.clean ≡ true) ↔
+        ((r.converged ≡ true) × Encoded d.code (word_after_read d w out))) is
     (subst (λ (t : Outcome DecodeResult). ((result_of d.code (progress_of d w)).clean ≡ true)
-    ↔ (((result_of d.code (progress_of d w)).converged ≡ true) × Encoded d.code (after t (λ _. word_of d.code w) out))) (sym e) (clean_result d w m))
+    ↔ (((result_of d.code (progress_of d w)).converged ≡ true)
+    × Encoded d.code (after t (λ _. word_of d.code w) out))) (sym e) (clean_result d w m))
 
 -- ---- the read of a decoder without eighths
 pub plain_read : PlainRead
 unfolding read_outcome word_after_read D.read_told D.read_written progress_of B.progress_of
 plain_read d low high w out =
-    let same : read_outcome d w (length out) ≡ D.read_told (record { code = d.code; iterations = d.iterations; converged = d.converged }) w (length out)
+    let same : read_outcome d w (length out)
+    ≡ D.read_told (record { code = d.code; iterations = d.iterations; converged = d.converged }) w (length out)
     = ap (λ t. if_made d.code (if_length 9 (length out) d.code.n_tx t)) (eighths_passed d.eighths _ low high) in
     (same, ap (λ t. after t (λ _. word_of d.code w) out) same)
 
@@ -119,8 +134,10 @@ record_tested d t m e = (
     made_passed _ d.code m ∙ eighths_refused d.eighths t e _,
     made_passed _ d.code m ∙ length_passed _ 9 (length word) d.code.n_tx long ∙ eighths_refused d.eighths t e _,
   ),
-  λ w. made_passed _ d.code m ∙ length_passed _ 9 d.code.n_tx d.code.n_tx refl ∙ eighths_refused d.eighths t e _,
-  λ g w copy. made_passed _ d.code m ∙ length_passed _ 9 d.code.n_tx d.code.n_tx refl ∙ eighths_refused d.eighths t e _,
+  λ w. made_passed _ d.code m ∙ length_passed _ 9 d.code.n_tx d.code.n_tx refl
+  ∙ eighths_refused d.eighths t e _,
+  λ g w copy. made_passed _ d.code m ∙ length_passed _ 9 d.code.n_tx d.code.n_tx refl
+  ∙ eighths_refused d.eighths t e _,
 )
 
 pub choices_tested : ChoicesTested

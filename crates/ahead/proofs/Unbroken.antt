@@ -1,4 +1,5 @@
--- The unbroken decode: of its needed numbers alone, in any memory; an accepted grant more goes on where it is. Assumes nothing.
+-- The unbroken decode: of its needed numbers alone, in any memory; an accepted grant more goes on where it is.
+-- Assumes nothing.
 use mathlib.Core.Path.{◌≡◌, refl, sym, ap, ap₂, ◌∙◌}
 use mathlib.Core.Bool.{Bool, true, false, ◌&&◌}
 use mathlib.Core.List.{List, [], ◌∷◌, ◌++◌}
@@ -40,12 +41,14 @@ module _ {A : Type 0} {n : ℕ} {f : List A → List A} (F : Front n f) where
   pub front_take : (w : List A) → n ≤ length w → take n (f w) ≡ f (take n w)
   front_take w h =
       let l = length-take-le n w h in
-      ap (take n) (sym (front_lent F n w (omega (arith, l)))) ∙ take_at (f (take n w)) (drop n w) n (F.long (take n w) (omega (arith, l)) ∙ l)
+      ap (take n) (sym (front_lent F n w (omega (arith, l))))
+      ∙ take_at (f (take n w)) (drop n w) n (F.long (take n w) (omega (arith, l)) ∙ l)
 
   pub front_drop : (w : List A) → n ≤ length w → drop n (f w) ≡ drop n w
   front_drop w h =
       let l = length-take-le n w h in
-      ap (drop n) (sym (front_lent F n w (omega (arith, l)))) ∙ drop_at (f (take n w)) (drop n w) n (F.long (take n w) (omega (arith, l)) ∙ l)
+      ap (drop n) (sym (front_lent F n w (omega (arith, l))))
+      ∙ drop_at (f (take n w)) (drop n w) n (F.long (take n w) (omega (arith, l)) ∙ l)
 
 -- ---- start, iterations and the word read and write the needed numbers alone, as in claims/proofs/Whole
 -- a decode cut down to its needed numbers
@@ -57,11 +60,13 @@ module _ (c : Code) (m : made c ≡ true) (schedule : Schedule) (e : ℕ → ℕ
   unfolding work_of needed bits_of slots_of
   step_of i = step_front schedule (factor_of (e i)) (code_graph c) (code_simple c) c.z (sized c m).lift
 
-  pub same_end : (w x : List Float) → work_of c ≤ length w → settled (code_graph c) c.z (w ++ x) ≡ settled (code_graph c) c.z w
+  pub same_end : (w x : List Float) → work_of c ≤ length w → settled (code_graph c) c.z (w ++ x)
+      ≡ settled (code_graph c) c.z w
   unfolding work_of needed bits_of slots_of
   same_end = same_settled (code_graph c) (code_simple c) c.z (sized c m).lift
 
-  pub iterated_long : (n : ℕ) (p : Progress (List Float)) → work_of c ≤ length p.memory → length (iterated schedule e c n p).memory ≡ length p.memory
+  pub iterated_long : (n : ℕ) (p : Progress (List Float)) → work_of c ≤ length p.memory
+      → length (iterated schedule e c n p).memory ≡ length p.memory
   unfolding iterated
   iterated_long n = run_long _ _ step_of same_end n
 
@@ -73,44 +78,56 @@ module _ (c : Code) (m : made c ≡ true) (schedule : Schedule) (e : ℕ → ℕ
       ∙ ap (λ (w : List Float). iterated schedule e c n (seen (λ v. w) p)) (take-append-drop k p.memory)
 
   pub iterated_front : (n i : ℕ) (converged : Bool)
-      → Front (work_of c) (λ w. (iterated schedule e c n (record { memory = w; iterations = i; converged = converged })).memory)
+      → Front (work_of c) (λ w.
+      (iterated schedule e c n (record { memory = w; iterations = i; converged = converged })).memory)
   unfolding iterated
   iterated_front n i converged =
       record {
-        append = λ w x h. ap (λ p. p.memory) (run_append _ _ step_of same_end n (record { memory = w; iterations = i; converged = converged }) x h);
+        append =
+            λ w x h. ap (λ p. p.memory)
+            (run_append _ _ step_of same_end n (record { memory = w; iterations = i; converged = converged }) x
+            h);
         long = λ w h. iterated_long n (record { memory = w; iterations = i; converged = converged }) h;
       }
 
-  pub iterated_cut : (n : ℕ) (p : Progress (List Float)) → work_of c ≤ length p.memory → cut c (iterated schedule e c n p) ≡ iterated schedule e c n (cut c p)
+  pub iterated_cut : (n : ℕ) (p : Progress (List Float)) → work_of c ≤ length p.memory
+      → cut c (iterated schedule e c n p) ≡ iterated schedule e c n (cut c p)
   iterated_cut n p h =
       let q : Progress (List Float) = iterated schedule e c n (cut c p) in
       let l = length-take-le (work_of c) p.memory h in
       ap (cut c) (sym (iterated_lent n p (work_of c) (omega (arith, l))))
       ∙ ap (λ (v : List Float). record { memory = v; iterations = q.iterations; converged = q.converged })
-      (take_at q.memory (drop (work_of c) p.memory) (work_of c) (iterated_long n (cut c p) (omega (arith, l)) ∙ l))
+      (take_at q.memory (drop (work_of c) p.memory) (work_of c)
+      (iterated_long n (cut c p) (omega (arith, l)) ∙ l))
 
-  pub unbroken_front : (n : ℕ) (rx : List Float) → Front (work_of c) (λ w. (unbroken schedule e c rx w n).memory)
+  pub unbroken_front : (n : ℕ) (rx : List Float)
+      → Front (work_of c) (λ w. (unbroken schedule e c rx w n).memory)
   unfolding unbroken
   unbroken_front n rx = front_then (start_front c rx) (iterated_front n 0 false)
 
 -- two decodes that are the same as far as their needed numbers go
-module _ (c : Code) (m : made c ≡ true) (p q : Progress (List Float)) (h : work_of c ≤ length p.memory) (k : work_of c ≤ length q.memory)
+module _ (c : Code) (m : made c ≡ true) (p q : Progress (List Float)) (h : work_of c ≤ length p.memory)
+    (k : work_of c ≤ length q.memory)
     (same : cut c p ≡ cut c q) where
   pub same_word : word_of c p.memory ≡ word_of c q.memory
   same_word =
       let word_cut : (v : List Float) → work_of c ≤ length v → word_of c (take (work_of c) v) ≡ word_of c v
       = λ v l. word_lent c m (work_of c) v (omega (arith, length-take-le (work_of c) v l)) in
-      sym (word_cut p.memory h) ∙ ap (λ (r : Progress (List Float)). word_of c r.memory) same ∙ word_cut q.memory k
+      sym (word_cut p.memory h) ∙ ap (λ (r : Progress (List Float)). word_of c r.memory) same
+          ∙ word_cut q.memory k
 
   pub same_result : result_of c p ≡ result_of c q
   unfolding result_of
   same_result =
       ap₂ (λ (r : Progress (List Float)) (word : List ℕ).
-      record { iterations = r.iterations; converged = r.converged; clean = r.converged && eqb (unsatisfied_of c word) 0 }) same same_word
+      record { iterations = r.iterations; converged = r.converged;
+      clean = r.converged && eqb (unsatisfied_of c word) 0 }) same same_word
 
-  pub same_iterated : (schedule : Schedule) (e : ℕ → ℕ) (n : ℕ) → cut c (iterated schedule e c n p) ≡ cut c (iterated schedule e c n q)
+  pub same_iterated : (schedule : Schedule) (e : ℕ → ℕ) (n : ℕ) → cut c (iterated schedule e c n p)
+      ≡ cut c (iterated schedule e c n q)
   same_iterated schedule e n =
-      iterated_cut c m schedule e n p h ∙ ap (iterated schedule e c n) same ∙ sym (iterated_cut c m schedule e n q k)
+      iterated_cut c m schedule e n p h ∙ ap (iterated schedule e c n) same
+      ∙ sym (iterated_cut c m schedule e n q k)
 
 -- ---- an accepted grant more goes on where the unbroken decode is
 module _ (c : Code) (ch : Choices) (rx w : List Float) (l : List Accepted) (a : Accepted) where
@@ -133,17 +150,20 @@ module _ (c : Code) (ch : Choices) (rx w : List Float) (l : List Accepted) (a : 
   unfolding unbroken_by unbroken iterated
   low_same n h =
       run_same (steps (λ i. eighths_at more (i + 1))) (steps (λ i. eighths_at l (i + 1))) ends n fresh
-      (λ i p q v. ap (λ (e : ℕ). step ch.schedule (factor_of e) (code_graph c) c.z v) (factor_low l a (i + 1) (omega arith) (omega arith)))
+      (λ i p q v. ap (λ (e : ℕ). step ch.schedule (factor_of e) (code_graph c) c.z v)
+      (factor_low l a (i + 1) (omega arith) (omega arith)))
 
   pub going : now.converged ≡ false → now.iterations ≡ sum_of l
   unfolding unbroken_by run_so_far unbroken iterated
   going q = run_going (steps (λ i. eighths_at l (i + 1))) ends (sum_of l) fresh q ∙ omega arith
 
-  grant_same : (n : ℕ) → n ≤ a.g → iterated ch.schedule (λ i. a.eighths) c n now ≡ iterated ch.schedule (λ i. eighths_at more (i + 1)) c n now
+  grant_same : (n : ℕ) → n ≤ a.g → iterated ch.schedule (λ i. a.eighths) c n now
+      ≡ iterated ch.schedule (λ i. eighths_at more (i + 1)) c n now
   unfolding iterated
   grant_same n h = by now.converged refl
     where
-      by : (t : Bool) → now.converged ≡ t → run (steps (λ i. a.eighths)) ends n now ≡ run (steps (λ i. eighths_at more (i + 1))) ends n now
+      by : (t : Bool) → now.converged ≡ t → run (steps (λ i. a.eighths)) ends n now
+          ≡ run (steps (λ i. eighths_at more (i + 1))) ends n now
       by true q = run_done _ _ n now q ∙ sym (run_done _ _ n now q)
       by false q =
           let i_is = going q in
@@ -151,7 +171,8 @@ module _ (c : Code) (ch : Choices) (rx w : List Float) (l : List Accepted) (a : 
           (λ i b d v. ap (λ (e : ℕ). step ch.schedule (factor_of e) (code_graph c) c.z v)
           (sym (factor_last l a (i + 1) (omega (arith, i_is)) (omega (arith, i_is)))))
 
-  pub on_same : (n : ℕ) → n ≤ a.g → iterated ch.schedule (λ i. a.eighths) c n now ≡ unbroken_by c ch rx w more (sum_of l + n)
+  pub on_same : (n : ℕ) → n ≤ a.g → iterated ch.schedule (λ i. a.eighths) c n now
+      ≡ unbroken_by c ch rx w more (sum_of l + n)
   unfolding run_so_far unbroken_by unbroken iterated
   on_same n h =
       grant_same n h
@@ -166,28 +187,34 @@ module _ (c : Code) (ch : Choices) (rx w : List Float) (l : List Accepted) (a : 
 module _ (c : Code) (schedule : Schedule) (e : ℕ → ℕ) (n : ℕ) (p : Progress (List Float)) where
   pub iterated_done : p.converged ≡ true → iterated schedule e c n p ≡ p
   unfolding iterated
-  iterated_done q = run_done (λ i. step schedule (factor_of (e i)) (code_graph c) c.z) (settled (code_graph c) c.z) n p q
+  iterated_done q =
+      run_done (λ i. step schedule (factor_of (e i)) (code_graph c) c.z) (settled (code_graph c) c.z) n p q
 
   pub iterated_most : (iterated schedule e c n p).iterations ≤ p.iterations + n
   unfolding iterated
-  iterated_most = run_most (λ i. step schedule (factor_of (e i)) (code_graph c) c.z) (settled (code_graph c) c.z) n p
+  iterated_most =
+      run_most (λ i. step schedule (factor_of (e i)) (code_graph c) c.z) (settled (code_graph c) c.z) n p
 
   pub iterated_least : p.iterations ≤ (iterated schedule e c n p).iterations
   unfolding iterated
-  iterated_least = run_least (λ i. step schedule (factor_of (e i)) (code_graph c) c.z) (settled (code_graph c) c.z) n p
+  iterated_least =
+      run_least (λ i. step schedule (factor_of (e i)) (code_graph c) c.z) (settled (code_graph c) c.z) n p
 
 -- ---- a decode whose factors are all one
 module _ (c : Code) (ch : Choices) (rx w : List Float) where
-  pub one_of : (l : List Accepted) → Each ch.eighths l → run_so_far c ch rx w l ≡ unbroken ch.schedule (λ i. ch.eighths) c rx w (sum_of l)
+  pub one_of : (l : List Accepted) → Each ch.eighths l → run_so_far c ch rx w l
+      ≡ unbroken ch.schedule (λ i. ch.eighths) c rx w (sum_of l)
   unfolding run_so_far unbroken_by unbroken iterated
   one_of l E =
       run_same (λ i. step ch.schedule (factor_of (eighths_at l (i + 1))) (code_graph c) c.z)
       (λ i. step ch.schedule (factor_of ch.eighths) (code_graph c) c.z) (settled (code_graph c) c.z) (sum_of l)
       (record { memory = start_memory c rx w; iterations = 0; converged = false })
-      (λ i a b v. ap (λ (e : ℕ). step ch.schedule (factor_of e) (code_graph c) c.z v) (each_at ch.eighths l E (i + 1) (omega arith) (omega arith)))
+      (λ i a b v. ap (λ (e : ℕ). step ch.schedule (factor_of e) (code_graph c) c.z v)
+      (each_at ch.eighths l E (i + 1) (omega arith) (omega arith)))
 
 -- ---- in any memory
-module _ (c : Code) (m : made c ≡ true) (schedule : Schedule) (e : ℕ → ℕ) (n : ℕ) (rx w w' : List Float) (room : work_of c ≤ length w)
+module _ (c : Code) (m : made c ≡ true) (schedule : Schedule) (e : ℕ → ℕ) (n : ℕ) (rx w w' : List Float)
+    (room : work_of c ≤ length w)
     (room' : work_of c ≤ length w') where
   any_cut : cut c (unbroken schedule e c rx w n) ≡ cut c (unbroken schedule e c rx w' n)
   unfolding unbroken
@@ -195,7 +222,8 @@ module _ (c : Code) (m : made c ≡ true) (schedule : Schedule) (e : ℕ → ℕ
       same_iterated c m (record { memory = start_memory c rx w; iterations = 0; converged = false })
       (record { memory = start_memory c rx w'; iterations = 0; converged = false })
       (omega (arith, (start_front c rx).long w room)) (omega (arith, (start_front c rx).long w' room'))
-      (ap (λ (v : List Float). record { memory = v; iterations = 0; converged = false }) (same_start c rx w w' room room')) schedule e n
+      (ap (λ (v : List Float). record { memory = v; iterations = 0; converged = false })
+      (same_start c rx w w' room room')) schedule e n
 
   long : work_of c ≤ length (unbroken schedule e c rx w n).memory
   long = omega (arith, (unbroken_front c m schedule e n rx).long w room)
@@ -206,10 +234,12 @@ module _ (c : Code) (m : made c ≡ true) (schedule : Schedule) (e : ℕ → ℕ
   pub any_result : result_of c (unbroken schedule e c rx w n) ≡ result_of c (unbroken schedule e c rx w' n)
   any_result = same_result c m _ _ long long' any_cut
 
-  pub any_word : word_of c (unbroken schedule e c rx w n).memory ≡ word_of c (unbroken schedule e c rx w' n).memory
+  pub any_word : word_of c (unbroken schedule e c rx w n).memory
+      ≡ word_of c (unbroken schedule e c rx w' n).memory
   any_word = same_word c m _ _ long long' any_cut
 
-  pub any_numbers : take (work_of c) (unbroken schedule e c rx w n).memory ≡ take (work_of c) (unbroken schedule e c rx w' n).memory
+  pub any_numbers : take (work_of c) (unbroken schedule e c rx w n).memory
+      ≡ take (work_of c) (unbroken schedule e c rx w' n).memory
   any_numbers = ap (λ p. p.memory) any_cut
 
   pub past_numbers : drop (work_of c) (unbroken schedule e c rx w n).memory ≡ drop (work_of c) w
