@@ -8,7 +8,7 @@ use lib.Dec.{eqb}
 use lib.ListN.{length, get_or}
 use lib.Ieee.{Float, nan}
 use borrow.Author.Tests.{eq-eqb}
-use Rattle.laws.specs.Run.{next}
+use Rattle.laws.specs.Run.{Progress, next}
 use Rattle.laws.proofs.Floats.{Sided}
 use Rattle.tables.specs.declared.BaseGraph.{BaseGraph}
 use Rattle.matrix.specs.Edges.{bit_at}
@@ -33,6 +33,11 @@ use Rattle.ahead.specs.Decoder.{iterated, unbroken}
 use Rattle.ahead.proofs.Layered.{Fresh, codeword_settles, step_decides}
 use Rattle.ahead.proofs.Eighths.{eighths_are_factors}
 
+-- a decode has ended after one iteration, clean, on an encoding
+abbrev pub Ends : Code → List ℕ → Progress (List Float) → Type 0
+Ends c info p =
+    (result_of c p ≡ record { iterations = 1; converged = true; clean = true }) × (word_of c p.memory ≡ encoding_of c info)
+
 module _ (c : Code) (m : made c ≡ true) (rx w : List Float) where
   abbrev g : BaseGraph
   g = code_graph c
@@ -45,19 +50,20 @@ module _ (c : Code) (m : made c ≡ true) (rx w : List Float) where
   module _ (info : List ℕ) (length_info : length info ≡ c.k) (bits : Bits info) (schedule : Schedule) (e : ℕ → ℕ)
       (settles : settled g c.z (one schedule e) ≡ true) (word : word_of c (one schedule e) ≡ encoding_of c info)
       (n : ℕ) (some : 1 ≤ n) where
-    pub ends_first : unbroken schedule e c rx w n ≡ record { memory = one schedule e; iterations = 1; converged = true }
+    ends_first : unbroken schedule e c rx w n ≡ record { memory = one schedule e; iterations = 1; converged = true }
     unfolding unbroken iterated next
     ends_first =
         run_first (λ i. step schedule (factor_of (e i)) g c.z) (settled g c.z)
         (record { memory = start_memory c rx w; iterations = 0; converged = false }) settles n some
         ∙ (λ i. record { memory = one schedule e; iterations = 1; converged = settles i })
 
-    pub first_result : result_of c (unbroken schedule e c rx w n)
-        ≡ record { iterations = 1; converged = true; clean = true }
+    pub ends : Ends c info (unbroken schedule e c rx w n)
     unfolding result_of
-    first_result =
-        let clean = eq-eqb _ 0 (ap (unsatisfied_of c) word ∙ encoded_met c m info length_info bits) in
-        ap (result_of c) ends_first ∙ (λ i. record { iterations = 1; converged = true; clean = clean i })
+    ends =
+        let clean = eq-eqb _ 0 (ap (unsatisfied_of c) word ∙ encoded_met c m info length_info bits) in (
+          ap (result_of c) ends_first ∙ (λ i. record { iterations = 1; converged = true; clean = clean i }),
+          ap (λ p. word_of c p.memory) ends_first ∙ word,
+        )
 
   -- ---- so it is with a noiseless block
   module _ (room : work_of c ≤ length w) (info : List ℕ) (length_info : length info ≡ c.k) (bits : Bits info)
@@ -90,16 +96,11 @@ module _ (c : Code) (m : made c ≡ true) (rx w : List Float) where
           codeword_settles g (code_simple c) c.z (sized c m).lift x (check_met c m info length_info bits)
           (one schedule e) decision_is
 
-      pub word_is : word_of c (one schedule e) ≡ encoding_of c info
+      word_is : word_of c (one schedule e) ≡ encoding_of c info
       unfolding encoding_of
       word_is =
           word_read c m (encoding_of c info) (encoded_length c m info)
           (encoded_bits g c.z c.k info length_info bits) (one schedule e) decision_is
 
-      pub unbroken_is : (n : ℕ) → 1 ≤ n
-          → unbroken schedule e c rx w n ≡ record { memory = one schedule e; iterations = 1; converged = true }
-      unbroken_is = ends_first info length_info bits schedule e settles_one word_is
-
-      pub result_is : (n : ℕ) → 1 ≤ n
-          → result_of c (unbroken schedule e c rx w n) ≡ record { iterations = 1; converged = true; clean = true }
-      result_is = first_result info length_info bits schedule e settles_one word_is
+      pub noiseless_ends : (n : ℕ) → 1 ≤ n → Ends c info (unbroken schedule e c rx w n)
+      noiseless_ends = ends info length_info bits schedule e settles_one word_is
