@@ -1,5 +1,5 @@
--- Block file: a payload as a file of coded bits, its writer and its reader. Left open: that with readings of ±1 and 50
--- iterations a block that converged is clean is not shown, and needs no statement here. Assumes nothing.
+-- Block file: a payload as a file of coded bits, its writer and its reader. Left open: that with readings of ±1
+-- and 50 iterations a block that converged is clean is not shown, and needs no statement here. Assumes nothing.
 use Rattle.std.specs.Prelude.{◌≡◌, Bool, true, false, not, cond, ◌&&◌, List, [], ◌∷◌, ◌++◌, ℕ, ◌+◌, ◌-◌, ◌*◌, ◌/◌, ◌%◌, ◌^◌, ◌<◌, ◌≤◌, eqb, ltb, leb, length, get_or, take, drop, Ok, Err, Float}
 use Rattle.std.specs.List.{Contains}
 use Rattle.laws.specs.Range.{sum, first, every}
@@ -99,8 +99,8 @@ if_length_and_spares c file rest =
     (cond (every (λ j. eqb (bit_in (drop 8 file) (c.n_tx + j)) 0) ((8 - c.n_tx % 8) % 8)) rest
     (refused 17 (length file) wanted))
 
--- the reader: 17 (under 8 bytes), 16, 17 (no block), 17 (length), 17 (a spare bit), 9, 8, all before the decode,
--- and 18 after it
+-- the reader: 17 (under 8 bytes), 16, 17 (no block), 17 (length), 17 (a spare bit), 9, 8, all before the
+-- decode, and 18 after it
 unfoldable pub file_tests : List ℕ → ℕ → List Float → Outcome Code
 file_tests file room w =
     cond (ltb (length file) 8) (refused 17 (length file) 8)

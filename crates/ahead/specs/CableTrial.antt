@@ -1,5 +1,6 @@
--- Cable trial: blocks drawn from a seed, their records and the report of them. Left open: a seed is a number of 64 bits
--- by its type; that each number of the report stands on a line of its own is the program's to show. Assumes nothing.
+-- Cable trial: blocks drawn from a seed, their records and the report of them. Left open: a seed is a number of
+-- 64 bits by its type; that each number of the report stands on a line of its own is the program's to show.
+-- Assumes nothing.
 use Rattle.std.specs.Prelude.{◌≡◌, Bool, false, not, cond, ◌&&◌, List, [], ◌∷◌, ◌++◌, ℕ, zero, suc, ◌+◌, ◌-◌, ◌*◌, ◌/◌, ◌%◌, ◌^◌, ◌<◌, eqb, ltb, length, get_or, Ok, Float}
 use Rattle.std.specs.Bool.{xor}
 use Rattle.laws.specs.Range.{sum, count, every}
@@ -51,8 +52,8 @@ block_record c setting s w =
     count (is_reversed c setting s) c.n_tx ∷ r.iterations ∷ bit r.converged ∷ bit r.clean
     ∷ bit (every (λ i. eqb (get_or word i 0) (get_or (info_drawn c s) i 0)) c.k) ∷ []
 
--- the state runs on from block to block; every block is decoded in the lent memory w: what the blocks before left
--- there gives the same records (`OneMemory`)
+-- the state runs on from block to block; every block is decoded in the lent memory w: what the blocks before
+-- left there gives the same records (`OneMemory`)
 unfoldable pub records_from : Code → ℕ → ℕ → List Float → ℕ → List ℕ
 records_from c setting s w zero = []
 records_from c setting s w (suc n) =
@@ -86,8 +87,8 @@ memory_after_trial rate n blocks setting seed room w =
 abbrev pub entry : List ℕ → ℕ → ℕ → ℕ
 entry l e i = get_or l (5 * i + e) 0
 
--- clean first, then converged: 0 clean and right, 1 clean and wrong; of those not clean, 2 converged only, 3 spent
--- (not converged)
+-- clean first, then converged: 0 clean and right, 1 clean and wrong; of those not clean, 2 converged only, 3
+-- spent (not converged)
 unfoldable pub heading : List ℕ → ℕ → ℕ
 heading l i =
     cond (eqb (entry l 3 i) 0) (cond (eqb (entry l 2 i) 0) 3 2) (cond (eqb (entry l 4 i) 0) 1 0)
@@ -107,7 +108,8 @@ has_heading l h i =
     let right = not (eqb (entry l 4 i) 0) in
     let converged = not (eqb (entry l 2 i) 0) in
     get_or
-    ((clean && right) ∷ (clean && not right) ∷ (not clean && converged) ∷ (not clean && not converged) ∷ []) h false
+    ((clean && right) ∷ (clean && not right) ∷ (not clean && converged) ∷ (not clean && not converged) ∷ []) h
+    false
 
 -- every total is the sum or the count over the records
 abbrev pub Totals : Type 0

@@ -1,7 +1,7 @@
 -- Wells on one allowance. Left open: between scans a list has replacements by a start in the well's own part; a
--- grant to one well, or a record that was started elsewhere, is no event (a read and a preview change nothing); the
--- allowance and iterations are numbers of 32 and 16 bits by their types; how a pad stands as numbers at the C
--- boundary. Assumes nothing.
+-- grant to one well, or a record that was started elsewhere, is no event (a read and a preview change nothing);
+-- the allowance and iterations are numbers of 32 and 16 bits by their types; how a pad stands as numbers at the
+-- C boundary. Assumes nothing.
 use Rattle.std.specs.Prelude.{◌≡◌, Bool, true, false, not, cond, ◌&&◌, List, [], ◌∷◌, ◌++◌, ℕ, zero, suc, ◌+◌, ◌-◌, ◌*◌, ◌/◌, ◌%◌, ◌<◌, ◌≤◌, ltb, length, get_or, set, take, drop, replicate, Option, None, Ok, Float}
 use Rattle.laws.specs.Range.{sum, first}
 use Rattle.refusals.specs.Outcome.{Outcome, and_then, after}
