@@ -1,5 +1,5 @@
--- Eighths, mid-block factor, preview, lowest count and layered schedule, on known values by computing: one iteration of each schedule, a
--- lowest count, and the refusals of each call in their order. Assumes nothing.
+-- Eighths, mid-block factor, preview, lowest count and layered schedule, on known values by computing: one
+-- iteration of each schedule, a lowest count, and the refusals of each call in their order. Assumes nothing.
 use Rattle.std.specs.Prelude.{Ok, Some, replicate, Err, None}
 use mathlib.Core.Path.{◌≡◌, refl}
 use mathlib.Core.Bool.{Bool, true, false, xor}
@@ -65,7 +65,8 @@ heard : List Float
 heard =
     up ∷ down ∷ up ∷ down ∷ up ∷ down ∷ up ∷ up ∷ up ∷ plus 1 0 ∷ []
 
--- all numbers of the work memory after one iteration at 7 eighths by each schedule, as a second implementation has them
+-- all numbers of the work memory after one iteration at 7 eighths by each schedule, as a second implementation
+-- has them
 after_flooding : List Float
 after_flooding =
     up ∷ down ∷ up ∷ down ∷ up ∷ down ∷ up ∷ up ∷ up ∷ plus 1 0 ∷ plus 1 2 ∷ minus 37 3 ∷ plus 37 3 ∷
@@ -97,7 +98,11 @@ weighed_five : Progress Lowest
 weighed_five =
     let w = start_memory two_five heard_two_five (zeros 80) in
     let p = weighing_run flooding (λ i. 6) two_five 5
-    (record { memory = record { memory = w; lowest = first_lowest two_five w (Some (word_of_zeros 5)) }; iterations = 0; converged = false }) in
+    (record {
+      memory = record { memory = w; lowest = first_lowest two_five w (Some (word_of_zeros 5)) };
+      iterations = 0;
+      converged = false;
+    }) in
     record { memory = p.memory.lowest; iterations = p.iterations; converged = p.converged }
 
 of_eighths : ℕ → Choices
@@ -105,30 +110,48 @@ of_eighths e = record { eighths = e; schedule = flooding }
 
 record_at : ℕ → ℕ → ℕ → Bool → Decode
 record_at r e n b =
-    record { code = five_ten r; iterations = n; converged = b; eighths = e; schedule = layered; lowest = 65535; lowest_at = 0 }
+    record {
+      code = five_ten r;
+      iterations = n;
+      converged = b;
+      eighths = e;
+      schedule = layered;
+      lowest = 65535;
+      lowest_at = 0;
+    }
 
 has_eighths : ℕ → Outcome Decode → Bool
 has_eighths e (Ok d) = eqb d.eighths e
 has_eighths e (Err n) = false
 
--- the factor of an iteration; iterations; a lowest count; the refusals of start, grant, read, preview and the one call
-known_values : let l : List Accepted = record { g = 2; eighths = 3 } ∷ record { g = 0; eighths = 5 } ∷ record { g = 1; eighths = 8 } ∷ [] in
+-- the factor of an iteration; iterations; a lowest count; the refusals of start, grant, read, preview and the
+-- one call
+known_values : let l : List Accepted = record { g = 2; eighths = 3 } ∷ record { g = 0; eighths = 5 }
+    ∷ record { g = 1; eighths = 8 } ∷ [] in
     (eighths_at l 1 ≡ 3) × (eighths_at l 2 ≡ 3) × (eighths_at l 3 ≡ 8) × (sum_of l ≡ 3)
     × (take 68 (unbroken flooding (λ i. 7) (five_ten 5) heard (zeros 70) 1).memory ≡ after_flooding)
     × (take 68 (unbroken layered (λ i. 7) (five_ten 5) heard (zeros 70) 1).memory ≡ after_layers)
     × (weighed_five.memory ≡ record { count = 1; at = 2; word = 1 ∷ 0 ∷ 1 ∷ 1 ∷ 1 ∷ [] })
-    × (start_outcome (five_ten 7) (of_eighths 0) (zeros 9) (Some (word_of_zeros 9)) (zeros 67) ≡ refused 11 7 10)
+    × (start_outcome (five_ten 7) (of_eighths 0) (zeros 9) (Some (word_of_zeros 9)) (zeros 67)
+    ≡ refused 11 7 10)
     × (start_outcome (five_ten 5) (of_eighths 0) (zeros 9) (Some (word_of_zeros 9)) (zeros 67) ≡ refused 5 9 10)
-    × (start_outcome (five_ten 5) (of_eighths 0) (zeros 10) (Some (word_of_zeros 9)) (zeros 67) ≡ refused 9 9 10)
+    × (start_outcome (five_ten 5) (of_eighths 0) (zeros 10) (Some (word_of_zeros 9)) (zeros 67)
+    ≡ refused 9 9 10)
     × (start_outcome (five_ten 5) (of_eighths 0) (zeros 10) (Some []) (zeros 67) ≡ refused 9 0 10)
-    × (start_outcome (five_ten 5) (of_eighths 9) (zeros 10) (Some (word_of_zeros 10)) (zeros 67) ≡ refused 13 9 8)
+    × (start_outcome (five_ten 5) (of_eighths 9) (zeros 10) (Some (word_of_zeros 10)) (zeros 67)
+    ≡ refused 13 9 8)
     × (start_outcome (five_ten 5) (of_eighths 8) (zeros 10) None (zeros 67) ≡ refused 8 67 68)
-    × (grant_outcome (record_at 6 0 65535 true) 1 (Some 9) (Some (word_of_zeros 9)) (zeros 67) ≡ refused 11 6 10)
+    × (grant_outcome (record_at 6 0 65535 true) 1 (Some 9) (Some (word_of_zeros 9)) (zeros 67)
+    ≡ refused 11 6 10)
     × (grant_outcome (record_at 5 0 65535 true) 1 (Some 9) (Some (word_of_zeros 9)) (zeros 67) ≡ refused 9 9 10)
-    × (grant_outcome (record_at 5 0 65535 true) 1 (Some 9) (Some (word_of_zeros 10)) (zeros 67) ≡ refused 13 0 1)
-    × (grant_outcome (record_at 5 1 65535 true) 1 (Some 9) (Some (word_of_zeros 10)) (zeros 67) ≡ refused 13 9 8)
-    × (grant_outcome (record_at 5 1 65535 true) 1 (Some 2) (Some (word_of_zeros 10)) (zeros 67) ≡ refused 8 67 68)
-    × (grant_outcome (record_at 5 1 65535 true) 1 (Some 2) (Some (word_of_zeros 10)) (zeros 68) ≡ refused 10 65536 65535)
+    × (grant_outcome (record_at 5 0 65535 true) 1 (Some 9) (Some (word_of_zeros 10)) (zeros 67)
+    ≡ refused 13 0 1)
+    × (grant_outcome (record_at 5 1 65535 true) 1 (Some 9) (Some (word_of_zeros 10)) (zeros 67)
+    ≡ refused 13 9 8)
+    × (grant_outcome (record_at 5 1 65535 true) 1 (Some 2) (Some (word_of_zeros 10)) (zeros 67)
+    ≡ refused 8 67 68)
+    × (grant_outcome (record_at 5 1 65535 true) 1 (Some 2) (Some (word_of_zeros 10)) (zeros 68)
+    ≡ refused 10 65536 65535)
     × (has_eighths 3 (grant_outcome (record_at 5 1 65535 false) 0 (Some 3) None (zeros 68)) ≡ true)
     × (has_eighths 1 (grant_outcome (record_at 5 1 65535 true) 0 (Some 3) None (zeros 68)) ≡ true)
     × (read_outcome (record_at 5 9 0 false) (zeros 67) 9 ≡ refused 9 9 10)
@@ -142,16 +165,59 @@ known_values : let l : List Accepted = record { g = 2; eighths = 3 } ∷ record 
     × (decode_outcome 9 10 (of_eighths 0) (zeros 10) 1 [] 0 ≡ refused 9 0 10)
     × (decode_outcome 9 10 (of_eighths 0) (zeros 10) 1 [] 10 ≡ refused 13 0 1)
     × (decode_outcome 9 10 (of_eighths 1) (zeros 10) 1 [] 10 ≡ refused 8 0 68)
-unfolding code_of sum some first edges edge_row edge_column edge_shift parity_row lift_of shape_of graph_number base_columns
-    info_columns base_rows information_columns five_ten code_graph graph_of tabulate row_at shift_at entry_at first_column
-    row_list shift_list bit_at collect checks_of info_end folded add is_nan eighths_at sum_of xor lt sub mul div of_int every
-    xor_sum count rewritten negative magnitude next run row_edges edges_by_row slot_of row_sum check_sum unmet is_sent
-    place_of lifted started taken answered bits_of slots_of to_checks_at to_bits_at gathered answer to_bit check_pass added
-    total total_pass to_check send_pass iteration decision settled memory_of numbers_of unsatisfied_of channel_of
-    start_memory word_of factor_of layer_to_check layer_to_bit layer_total layer layers layered_iteration step iterated
-    unbroken record_of progress_of eighths_in_force run_of_grant lowest_of lowest_with_word weighing_step weighing_run no_lowest first_lowest heard
+unfolding code_of sum some first edges edge_row edge_column edge_shift parity_row lift_of shape_of graph_number
+    base_columns
+    info_columns base_rows information_columns five_ten code_graph graph_of tabulate row_at shift_at entry_at
+    first_column
+    row_list shift_list bit_at collect checks_of info_end folded add is_nan eighths_at sum_of xor lt sub mul div
+    of_int every
+    xor_sum count rewritten negative magnitude next run row_edges edges_by_row slot_of row_sum check_sum unmet
+    is_sent
+    place_of lifted started taken answered bits_of slots_of to_checks_at to_bits_at gathered answer to_bit
+    check_pass added
+    total total_pass to_check send_pass iteration decision settled memory_of numbers_of unsatisfied_of
+    channel_of
+    start_memory word_of factor_of layer_to_check layer_to_bit layer_total layer layers layered_iteration step
+    iterated
+    unbroken record_of progress_of eighths_in_force run_of_grant lowest_of lowest_with_word weighing_step
+    weighing_run no_lowest first_lowest heard
     after_layers after_flooding two_five result_of work_of serves family_code tried_from chosen same_code made
-    if_made if_length if_work if_sum if_eighths if_new_eighths if_slice lowest_after_grant outcome_by start_outcome grant_outcome
-    read_outcome preview_outcome decode_outcome zeros word_of_zeros up down plus minus heard_two_five weighed_five
+    if_made if_length if_work if_sum if_eighths if_new_eighths if_slice lowest_after_grant outcome_by
+    start_outcome grant_outcome
+    read_outcome preview_outcome decode_outcome zeros word_of_zeros up down plus minus heard_two_five
+    weighed_five
     of_eighths record_at has_eighths
-known_values = (refl, refl, refl, refl, refl, refl, refl, refl, refl, refl, refl, refl, refl, refl, refl, refl, refl, refl, refl, refl, refl, refl, refl, refl, refl, refl, refl, refl, refl, refl, refl, refl)
+known_values = (
+  refl,
+  refl,
+  refl,
+  refl,
+  refl,
+  refl,
+  refl,
+  refl,
+  refl,
+  refl,
+  refl,
+  refl,
+  refl,
+  refl,
+  refl,
+  refl,
+  refl,
+  refl,
+  refl,
+  refl,
+  refl,
+  refl,
+  refl,
+  refl,
+  refl,
+  refl,
+  refl,
+  refl,
+  refl,
+  refl,
+  refl,
+  refl,
+)

@@ -47,8 +47,11 @@ module _ (c : Code) (m : made c ≡ true) (ch : Choices) (rx w : List Float) (en
   reached_most l =
       omega (
         arith,
-        iterated_most c ch.schedule (λ i. eighths_at l (i + 1)) (sum_of l) (record { memory =
-            start_memory c rx w; iterations = 0; converged = false }),
+        iterated_most c ch.schedule (λ i. eighths_at l (i + 1)) (sum_of l) (record {
+          memory = start_memory c rx w;
+          iterations = 0;
+          converged = false;
+        }),
       )
 
   -- and no fewer after one grant more
@@ -146,8 +149,11 @@ module _ (d : Decode) (g : ℕ) (brought : Option ℕ) (word : List ℕ) (w : Li
       }
 
   candidate_after : (i : ℕ) → 1 ≤ i
-      → record { count = unsatisfied_of c (word_of c (run_to i).memory); at = d.iterations + i;
-      word = word_of c (run_to i).memory } ≡ candidate i
+      → record {
+        count = unsatisfied_of c (word_of c (run_to i).memory);
+        at = d.iterations + i;
+        word = word_of c (run_to i).memory;
+      } ≡ candidate i
   candidate_after i h = rw (ne_eqb i 0 (omega arith)) refl
 
   weighs : lowest_after_grant d g brought (Some word) w
@@ -205,6 +211,6 @@ count_fits code m word =
     omega (
       arith,
       count_most (check_sum (code_graph code) code.z (lifted code.k (info_end code) word))
-      ((code_graph code).shape.m_b * code.z),
+          ((code_graph code).shape.m_b * code.z),
       (code_sizes code m).checks_most,
     )

@@ -52,8 +52,11 @@ module _ (c : Code) (m : made c ≡ true) (ch : Choices) (rx w : List Float) (en
   here_long : W ≤ length here.memory
   unfolding run_so_far unbroken_by
   here_long =
-      omega (arith, (unbroken_front c m ch.schedule (λ i. eighths_at o.accepted (i + 1)) (sum_of o.accepted)
-      rx).long w enough)
+      omega (
+        arith,
+        (unbroken_front c m ch.schedule (λ i. eighths_at o.accepted (i + 1)) (sum_of o.accepted)
+            rx).long w enough,
+      )
 
   there_long : W ≤ length there.memory
   unfolding run_ahead run_so_far unbroken_by
@@ -66,8 +69,11 @@ module _ (c : Code) (m : made c ≡ true) (ch : Choices) (rx w : List Float) (en
     unfolding run_of_grant eighths_in_force progress_of owed_record record_of run_ahead accepted_with
         owed_eighths
     granted_cut =
-        same_iterated c m (record { memory =
-            v; iterations = here.iterations; converged = here.converged }) here long here_long
+        same_iterated c m (record {
+          memory = v;
+          iterations = here.iterations;
+          converged = here.converged;
+        }) here long here_long
         (ap (λ (u : List Float).
         record { memory = u; iterations = here.iterations; converged = here.converged }) same) ch.schedule
         (λ i. owed_eighths c ch rx w o None) g
@@ -76,8 +82,12 @@ module _ (c : Code) (m : made c ≡ true) (ch : Choices) (rx w : List Float) (en
     granted_long : W ≤ length (granted_in v).memory
     unfolding run_of_grant progress_of owed_record record_of
     granted_long =
-        omega (arith, iterated_long c m ch.schedule (λ i. eighths_in_force (owed_record c ch rx w o) None) g
-        (progress_of (owed_record c ch rx w o) v) long, long)
+        omega (
+          arith,
+          iterated_long c m ch.schedule (λ i. eighths_in_force (owed_record c ch rx w o) None) g
+              (progress_of (owed_record c ch rx w o) v) long,
+          long,
+        )
 
     granted_past : drop W (granted_in v).memory ≡ drop W v
     unfolding run_of_grant progress_of owed_record record_of

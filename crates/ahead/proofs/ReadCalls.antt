@@ -78,9 +78,11 @@ module _ (c : Code) (ch : Choices) (rx w : List Float) (l : List Accepted) (lent
   pub read_gives : owed_read c ch rx w l lent (length out) ≡ Ok r → owed_word c ch rx w l lent out ≡ word
       → (r ≡ result_of c (run_so_far c ch rx w l)) × (word ≡ word_of c (run_so_far c ch rx w l).memory)
   unfolding owed_word
-  read_gives told wrote =
-      (sym (gives (length out) told), sym wrote
-      ∙ ap (λ t. after t (λ _. word_of c (run_so_far c ch rx w l).memory) out) told)
+  read_gives told wrote = (
+    sym (gives (length out) told),
+    sym wrote
+        ∙ ap (λ t. after t (λ _. word_of c (run_so_far c ch rx w l).memory) out) told,
+  )
 
 -- ---- clean
 read_given : (d : Decode) (w : List Float) (room : ℕ) (x : DecodeResult) → read_outcome d w room ≡ Ok x
@@ -112,7 +114,7 @@ unfolding word_after_read Encoded
 clean_is_encoded d w out x e =
     let (m, is) = read_given d w (length out) x e in
     subst (λ (r : DecodeResult). (r.clean ≡ true) ↔
-        ((r.converged ≡ true) × Encoded d.code (word_after_read d w out))) is
+    ((r.converged ≡ true) × Encoded d.code (word_after_read d w out))) is
     (subst (λ (t : Outcome DecodeResult). ((result_of d.code (progress_of d w)).clean ≡ true)
     ↔ (((result_of d.code (progress_of d w)).converged ≡ true)
     × Encoded d.code (after t (λ _. word_of d.code w) out))) (sym e) (clean_result d w m))
@@ -135,9 +137,9 @@ record_tested d t m e = (
     made_passed _ d.code m ∙ length_passed _ 9 (length word) d.code.n_tx long ∙ eighths_refused d.eighths t e _,
   ),
   λ w. made_passed _ d.code m ∙ length_passed _ 9 d.code.n_tx d.code.n_tx refl
-  ∙ eighths_refused d.eighths t e _,
+      ∙ eighths_refused d.eighths t e _,
   λ g w copy. made_passed _ d.code m ∙ length_passed _ 9 d.code.n_tx d.code.n_tx refl
-  ∙ eighths_refused d.eighths t e _,
+      ∙ eighths_refused d.eighths t e _,
 )
 
 pub choices_tested : ChoicesTested

@@ -14,11 +14,16 @@ module _ {W : Type 0} (f h : ℕ → W → W) (end : W → Bool) where
   next_same p e = by p.converged refl
     where
       by : (t : Bool) → p.converged ≡ t
-          → cond t p (record { memory = f p.iterations p.memory; iterations = p.iterations + 1;
-          converged = end (f p.iterations p.memory) })
-          ≡ cond t p (record { memory =
-              h p.iterations p.memory; iterations = p.iterations + 1; converged = end (h p.iterations p.memory)
-              })
+          → cond t p (record {
+            memory = f p.iterations p.memory;
+            iterations = p.iterations + 1;
+            converged = end (f p.iterations p.memory);
+          })
+          ≡ cond t p (record {
+            memory = h p.iterations p.memory;
+            iterations = p.iterations + 1;
+            converged = end (h p.iterations p.memory);
+          })
       by true q = refl
       by false q = rw (e q p.memory) refl
 
@@ -28,9 +33,11 @@ module _ {W : Type 0} (f : ℕ → W → W) (end : W → Bool) where
   next_least p = by p.converged
     where
       by : (t : Bool) → p.iterations
-          ≤ (cond t p (record { memory =
-              f p.iterations p.memory; iterations = p.iterations + 1; converged = end (f p.iterations p.memory)
-              })).iterations
+          ≤ (cond t p (record {
+            memory = f p.iterations p.memory;
+            iterations = p.iterations + 1;
+            converged = end (f p.iterations p.memory);
+          })).iterations
       by true = omega arith
       by false = omega arith
 
@@ -45,11 +52,17 @@ module _ {W : Type 0} (f : ℕ → W → W) (end : W → Bool) where
   next_going p = by p.converged refl
     where
       by : (t : Bool) → p.converged ≡ t
-          → (cond t p (record { memory = f p.iterations p.memory; iterations = p.iterations + 1;
-          converged = end (f p.iterations p.memory) })).converged ≡ false
+          → (cond t p (record {
+            memory = f p.iterations p.memory;
+            iterations = p.iterations + 1;
+            converged = end (f p.iterations p.memory);
+          })).converged ≡ false
           → (p.converged ≡ false)
-          × ((cond t p (record { memory = f p.iterations p.memory; iterations = p.iterations + 1;
-          converged = end (f p.iterations p.memory) })).iterations ≡ p.iterations + 1)
+          × ((cond t p (record {
+            memory = f p.iterations p.memory;
+            iterations = p.iterations + 1;
+            converged = end (f p.iterations p.memory);
+          })).iterations ≡ p.iterations + 1)
       by true q e = absurd (true≢false (sym q ∙ e))
       by false q e = (q, refl)
 

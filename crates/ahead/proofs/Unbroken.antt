@@ -114,14 +114,17 @@ module _ (c : Code) (m : made c ≡ true) (p q : Progress (List Float)) (h : wor
       let word_cut : (v : List Float) → work_of c ≤ length v → word_of c (take (work_of c) v) ≡ word_of c v
       = λ v l. word_lent c m (work_of c) v (omega (arith, length-take-le (work_of c) v l)) in
       sym (word_cut p.memory h) ∙ ap (λ (r : Progress (List Float)). word_of c r.memory) same
-          ∙ word_cut q.memory k
+      ∙ word_cut q.memory k
 
   pub same_result : result_of c p ≡ result_of c q
   unfolding result_of
   same_result =
       ap₂ (λ (r : Progress (List Float)) (word : List ℕ).
-      record { iterations = r.iterations; converged = r.converged;
-      clean = r.converged && eqb (unsatisfied_of c word) 0 }) same same_word
+      record {
+        iterations = r.iterations;
+        converged = r.converged;
+        clean = r.converged && eqb (unsatisfied_of c word) 0;
+      }) same same_word
 
   pub same_iterated : (schedule : Schedule) (e : ℕ → ℕ) (n : ℕ) → cut c (iterated schedule e c n p)
       ≡ cut c (iterated schedule e c n q)

@@ -60,11 +60,13 @@ settled_at_once = replicate 10 plus
 zeros : ℕ → List Float
 zeros n = replicate n nought
 
--- three wells' memory and two numbers more: the second well converges in one iteration, the others in none that are dealt here
+-- three wells' memory and two numbers more: the second well converges in one iteration, the others in none that
+-- are dealt here
 memory : List Float
 memory =
     start_memory (code 5) unsettled (zeros 68)
-    ++ (start_memory (code 5) settled_at_once (zeros 68) ++ (start_memory (code 5) unsettled (zeros 68) ++ zeros 2))
+    ++ (start_memory (code 5) settled_at_once (zeros 68)
+    ++ (start_memory (code 5) unsettled (zeros 68) ++ zeros 2))
 
 pad : ℕ → ℕ → Decode → Decode → Decode → Pad
 pad n last a b d = record { wells = n; last = last; decodes = a ∷ b ∷ d ∷ replicate 13 no_decode }
@@ -77,7 +79,12 @@ record ScanNumbers : Type 0 where
 
 numbers_of : Pad → ℕ → List Float → Outcome ScanNumbers
 numbers_of pad allowance w =
-    and_then (scan_told pad allowance w) (λ t. Ok (record { dealt = t.dealt; left = t.left; last = t.pad.last }))
+    and_then (scan_told pad allowance w) (λ t. Ok (record {
+      dealt =
+          t.dealt;
+      left = t.left;
+      last = t.pad.last;
+    }))
 
 numbers : ℕ → ℕ → ℕ → ℕ → ℕ → Outcome ScanNumbers
 numbers a b d left last = Ok (record { dealt = a ∷ b ∷ d ∷ replicate 13 0; left = left; last = last })
@@ -89,7 +96,8 @@ scans : (numbers_of (pad 3 2 fresh fresh fresh) 0 memory ≡ numbers 0 0 0 0 2)
     × (numbers_of (pad 3 2 fresh fresh fresh) 1 memory ≡ numbers 1 0 0 0 0)
     × (numbers_of (pad 3 0 fresh fresh fresh) 1 memory ≡ numbers 0 1 0 0 1)
     × (numbers_of (pad 3 1 fresh (well 5 6 1 true) fresh) 5 memory ≡ numbers 2 0 3 0 2)
-    × (numbers_of (pad 3 2 (well 5 6 65534 false) (well 5 6 1 true) (well 5 6 65535 false)) 9 memory ≡ numbers 1 0 0 8 0)
+    × (numbers_of (pad 3 2 (well 5 6 65534 false) (well 5 6 1 true) (well 5 6 65535 false)) 9 memory
+    ≡ numbers 1 0 0 8 0)
     × (numbers_of (pad 3 2 (well 5 6 65534 false) (well 5 6 1 true) fresh) 3 memory ≡ numbers 1 0 2 0 2)
     × (numbers_of (pad 3 2 fresh fresh fresh) 4 memory ≡ numbers 2 1 1 0 0)
     × (numbers_of (pad 3 2 fresh fresh fresh) 7 memory ≡ numbers 3 1 3 0 2)
@@ -102,15 +110,19 @@ scans : (numbers_of (pad 3 2 fresh fresh fresh) 0 memory ≡ numbers 0 0 0 0 2)
     × (numbers_of (pad 3 2 (well 7 0 0 false) fresh fresh) 1 (take 3 memory) ≡ refused 11 7 10)
     × (numbers_of (pad 3 2 (well 5 0 0 false) fresh fresh) 1 (take 3 memory) ≡ refused 13 0 1)
     × (numbers_of (pad 3 2 fresh no_decode fresh) 1 memory ≡ refused 11 0 0)
-unfolding xor lt add sub mul div of_int is_nan every some sum pair_sum xor_sum count collect first folded information_columns parity_row tabulate rewritten negative magnitude next run
-    row_list shift_list graph_number base_columns info_columns base_rows first_column entry_at row_at shift_at shape_of graph_of
+unfolding xor lt add sub mul div of_int is_nan every some sum pair_sum xor_sum count collect first folded
+    information_columns parity_row tabulate rewritten negative magnitude next run
+    row_list shift_list graph_number base_columns info_columns base_rows first_column entry_at row_at shift_at
+    shape_of graph_of
     edges edge_row edge_column edge_shift bit_at row_edges edges_by_row slot_of
     row_sum check_sum unmet is_sent place_of lifted
     started taken answered bits_of slots_of to_checks_at to_bits_at
     gathered answer to_bit check_pass added total total_pass to_check send_pass iteration decision settled
     code_graph info_end checks_of channel_of start_memory work_of
-    lift_of serves code_of family_code tried_from chosen same_code made if_made if_length if_work if_sum if_eighths
+    lift_of serves code_of family_code tried_from chosen same_code made if_made if_length if_work if_sum
+    if_eighths
     factor_of step iterated unbroken record_of progress_of eighths_in_force run_of_grant lowest_of
-    no_decode part_of memory_with_part scan_after_deal_to scan_after_deal scan_after_deals first_fault well_outcome scan_outcome scan_told
+    no_decode part_of memory_with_part scan_after_deal_to scan_after_deal scan_after_deals first_fault
+    well_outcome scan_outcome scan_told
     code well plus minus unsettled settled_at_once zeros memory pad numbers_of numbers fresh
 scans = (refl, refl, refl, refl, refl, refl, refl, refl, refl, refl, refl, refl, refl, refl, refl, refl, refl)
