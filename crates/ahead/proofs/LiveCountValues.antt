@@ -25,6 +25,10 @@ code r = record { rate = r; n_tx = 10; family = 2; z = 1; k = 3; shortened = 0 }
 zeros : ℕ → List ℕ
 zeros n = replicate n 0
 
+-- a record with five shortened bits, which come between its one information bit and its parity bits
+short_code : Code
+short_code = record { rate = 2; n_tx = 5; family = 2; z = 1; k = 1; shortened = 5 }
+
 -- ---- places 0 and 3, whose checks are 0, 2, 4 and 0, 3, 6: a count meets its limits in the midst of a toggle
 toggle_at : ℕ → List ℕ → List ℕ → ℕ → LiveWord
 toggle_at place word syndrome count =
@@ -33,7 +37,8 @@ toggle_at place word syndrome count =
 one_at_3 : List ℕ → List ℕ
 one_at_3 behind = 0 ∷ 0 ∷ 0 ∷ 1 ∷ behind
 
-toggles : (syndrome_of (code 5) (one_at_3 (zeros 6)) ≡ 1 ∷ 0 ∷ 0 ∷ 1 ∷ 0 ∷ 0 ∷ 1 ∷ [])
+toggles : (sent_at short_code 1 ≡ 6)
+    × (syndrome_of (code 5) (one_at_3 (zeros 6)) ≡ 1 ∷ 0 ∷ 0 ∷ 1 ∷ 0 ∷ 0 ∷ 1 ∷ [])
     × (checks_with (code_graph (code 5)) 1 0 ≡ 0 ∷ 2 ∷ 4 ∷ [])
     × (checks_with (code_graph (code 5)) 1 3 ≡ 0 ∷ 3 ∷ 6 ∷ [])
     × ((toggle_at 0 (zeros 10) (zeros 7) 0).syndrome ≡ 1 ∷ 0 ∷ 1 ∷ 0 ∷ 1 ∷ 0 ∷ 0 ∷ [])
@@ -50,8 +55,8 @@ toggles : (syndrome_of (code 5) (one_at_3 (zeros 6)) ≡ 1 ∷ 0 ∷ 0 ∷ 1 ∷
 unfolding xor some sum xor_sum collect first folded information_columns parity_row tabulate row_list shift_list
     graph_number base_columns info_columns base_rows first_column entry_at row_at shift_at shape_of graph_of
     edges edge_row edge_column edge_shift bit_at row_sum check_sum is_sent place_of lifted code_graph info_end checks_of
-    syndrome_of is_joined checks_with sent_at bytes_with_toggle after_check after_toggle code zeros toggle_at one_at_3
-toggles = (refl, refl, refl, refl, refl, refl, refl, refl, refl, refl, refl)
+    syndrome_of is_joined checks_with sent_at bytes_with_toggle after_check after_toggle code short_code zeros toggle_at one_at_3
+toggles = (refl, refl, refl, refl, refl, refl, refl, refl, refl, refl, refl, refl)
 
 -- ---- the order of the refusals, and their numbers
 live : ℕ → LiveCount

@@ -20,14 +20,14 @@ either_way Q false p q = q refl
 
 -- ---- tests passed
 module _ {A : Type 0} where
-  pub eighths_passed : (e : ℕ) (rest : Outcome A) → 1 ≤ e → e ≤ 8 → if_eighths e rest ≡ rest
-  unfolding if_eighths
-  eighths_passed e rest h k = rw (le-ltb e 1 h, le-ltb 8 e k) refl
-
   pub eighths_refused : (e : ℕ) (t : Numbers) → range_test 13 e 1 8 ≡ Err t → (rest : Outcome A)
       → if_eighths e rest ≡ Err t
   unfolding if_eighths
   eighths_refused e t h rest = ap (λ x. and_then x (λ _. rest)) h
+
+  pub eighths_passed : (e : ℕ) (rest : Outcome A) → 1 ≤ e → e ≤ 8 → if_eighths e rest ≡ rest
+  unfolding if_eighths
+  eighths_passed e rest h k = rw (le-ltb e 1 h, le-ltb 8 e k) refl
 
   pub work_passed : (c : Code) (n : ℕ) → work_of c ≤ n → (rest : Outcome A) → if_work c n rest ≡ rest
   unfolding if_work
