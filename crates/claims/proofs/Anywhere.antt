@@ -26,7 +26,7 @@ use Rattle.claims.proofs.Regions.{any_memory, length_all}
 use Rattle.claims.proofs.Whole.{iterated_lent, iterated_long, word_lent}
 
 module _ (c : Code) (rx w w' : List Float) (room : work_of c ≤ length w) (room' : work_of c ≤ length w') where
-  pub start_long : (v : List Float) → work_of c ≤ length v → length (start_memory c rx v) ≡ length v
+  start_long : (v : List Float) → work_of c ≤ length v → length (start_memory c rx v) ≡ length v
   unfolding start_memory work_of to_bits_at to_checks_at bits_of slots_of
   start_long v h = length_all (bits_of (code_graph c) c.z) (slots_of (code_graph c) c.z) (channel_of c rx) _ v h
 
