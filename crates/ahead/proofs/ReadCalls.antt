@@ -1,20 +1,18 @@
 -- A read of what is held after a list of calls, and what clean says of it. Assumes nothing.
 use Rattle.std.specs.Prelude.{Ok}
 use mathlib.Core.Path.{◌≡◌, refl, sym, ap, ◌∙◌, subst}
-use mathlib.Core.Bool.{true, and-eq-true_iff}
+use mathlib.Core.Bool.{true}
 use mathlib.Core.List.{List}
 use Prim.Native.Nat.{ℕ, ◌≤◌, min}
-use lib.Dec.{eqb}
 use lib.ListN.{length, take}
 use lib.Ieee.{Float}
-use borrow.Author.Tests.{eq-eqb, eqb-true}
 use Rattle.refusals.specs.Outcome.{Outcome, after, if_length}
 use Rattle.ldpc.specs.declared.choice.Code.{Code}
 use Rattle.ldpc.specs.Choice.{made, if_made}
 use Rattle.ldpc.proofs.Refused.{made_passed}
 use Rattle.decoder.specs.declared.record.DecodeResult.{DecodeResult}
 use Rattle.word.specs.Word.{word_of}
-use Rattle.coder.specs.Calls.{unsatisfied_of, encoding_of}
+use Rattle.coder.specs.Calls.{encoding_of}
 use Rattle.decoder.specs.Decoding as B
 use Rattle.decoder.specs.Decoding.{result_of}
 use Rattle.decoder.specs.Calls as D
@@ -24,12 +22,11 @@ use Rattle.claims.proofs.Cases.{made_cases, length_cases, work_cases, work_same,
 use Rattle.ahead.specs.Decoder.{Choices, Decode, record_of, progress_of, read_outcome, word_after_read, Lowest, grant_outcome, preview_outcome, start_outcome}
 use Rattle.ahead.specs.Claim.{Accepted, run_so_far, owed_read, owed_word, RecordTested, ChoicesTested}
 use mathlib.Core.Logic.{◌↔◌}
-use Rattle.coder.proofs.Theorems.{codeword}
-use Rattle.word.proofs.Word.{word_long, word_bits}
 use Rattle.ahead.specs.OneCall.{CleanIsEncoded, PlainRead}
 use Rattle.ahead.proofs.Tests.{eighths_passed, eighths_cases, eighths_refused}
 use Rattle.refusals.proofs.Lengths.{length_passed}
 use Rattle.ahead.specs.Refused.{if_slice}
+use Rattle.claims.proofs.Clean.{clean}
 
 -- ---- a read, of the record that is held: whatever its lowest count
 module _ (c : Code) (m : made c ≡ true) (ch : Choices) (rx w : List Float) (l : List Accepted) (e lent : ℕ)
@@ -84,41 +81,6 @@ module _ (c : Code) (ch : Choices) (rx w : List Float) (l : List Accepted) (lent
         ∙ ap (λ t. after t (λ _. word_of c (run_so_far c ch rx w l).memory) out) told,
   )
 
--- ---- clean
-read_given : (d : Decode) (w : List Float) (room : ℕ) (x : DecodeResult) → read_outcome d w room ≡ Ok x
-    → (made d.code ≡ true) × (result_of d.code (progress_of d w) ≡ x)
-unfolding read_outcome
-read_given d w room x =
-    made_cases P never d.code (λ m.
-    length_cases P never 9 room d.code.n_tx (λ l.
-    eighths_cases P never d.eighths _ (λ b.
-    work_cases P never d.code (length w) (λ h e. (m, cc)))))
-  where
-    P : Outcome DecodeResult → Type 0
-    P t = t ≡ Ok x → (made d.code ≡ true) × (result_of d.code (progress_of d w) ≡ x)
-
-Encoded : Code → List ℕ → Type 0
-Encoded c word = word ≡ encoding_of c (take c.k word)
-
-clean_result : (d : Decode) (w : List Float) → made d.code ≡ true
-    → ((result_of d.code (progress_of d w)).clean ≡ true) ↔
-    (((result_of d.code (progress_of d w)).converged ≡ true) × Encoded d.code (word_of d.code w))
-unfolding result_of progress_of Encoded
-clean_result d w m =
-    let word = codeword d.code m (word_of d.code w) (word_long d.code w) (word_bits d.code w) in
-    let both = and-eq-true_iff d.converged (eqb (unsatisfied_of d.code (word_of d.code w)) 0) in
-    (λ e. ((both.0 e).0, word.0 (eqb-true _ 0 (both.0 e).1)), λ k. both.1 (k.0, eq-eqb _ 0 (word.1 k.1)))
-
-pub clean_is_encoded : CleanIsEncoded
-unfolding word_after_read Encoded
-clean_is_encoded d w out x e =
-    let (m, is) = read_given d w (length out) x e in
-    subst (λ (r : DecodeResult). (r.clean ≡ true) ↔
-    ((r.converged ≡ true) × Encoded d.code (word_after_read d w out))) is
-    (subst (λ (t : Outcome DecodeResult). ((result_of d.code (progress_of d w)).clean ≡ true)
-    ↔ (((result_of d.code (progress_of d w)).converged ≡ true)
-    × Encoded d.code (after t (λ _. word_of d.code w) out))) (sym e) (clean_result d w m))
-
 -- ---- the read of a decoder without eighths
 pub plain_read : PlainRead
 unfolding read_outcome word_after_read D.read_told D.read_written progress_of B.progress_of
@@ -127,6 +89,27 @@ plain_read d low high w out =
     ≡ D.read_told (record { code = d.code; iterations = d.iterations; converged = d.converged }) w (length out)
     = ap (λ t. if_made d.code (if_length 9 (length out) d.code.n_tx t)) (eighths_passed d.eighths _ low high) in
     (same, ap (λ t. after t (λ _. word_of d.code w) out) same)
+
+-- so what clean says of it is what it says of that
+read_eighths : (d : Decode) (w : List Float) (room : ℕ) (x : DecodeResult) → read_outcome d w room ≡ Ok x
+    → (1 ≤ d.eighths) × (d.eighths ≤ 8)
+unfolding read_outcome
+read_eighths d w room x =
+    made_cases P never d.code (λ m.
+    length_cases P never 9 room d.code.n_tx (λ l.
+    eighths_cases P never d.eighths _ (λ b e. b)))
+  where
+    P : Outcome DecodeResult → Type 0
+    P t = t ≡ Ok x → (1 ≤ d.eighths) × (d.eighths ≤ 8)
+
+pub clean_is_encoded : CleanIsEncoded
+clean_is_encoded d w out x e =
+    let b = read_eighths d w (length out) x e in
+    let (told, wrote) = plain_read d b.0 b.1 w out in
+    subst
+    (λ (word : List ℕ). (x.clean ≡ true) ↔ ((x.converged ≡ true) × (word ≡ encoding_of d.code (take d.code.k word))))
+    (sym wrote)
+    (clean (record { code = d.code; iterations = d.iterations; converged = d.converged }) w out x (sym told ∙ e))
 
 -- ---- the eighths of a record and of choices are tested first
 pub record_tested : RecordTested
