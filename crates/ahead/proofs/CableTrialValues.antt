@@ -30,21 +30,19 @@ use Rattle.decoder.specs.Decoding.{result_of}
 use Rattle.ahead.specs.Schedules.{factor_of, step}
 use Rattle.ahead.specs.Decoder.{iterated, unbroken}
 use Rattle.ahead.specs.CableTrial.{draw, info_drawn, is_reversed, heard_block, block_run, block_record, records_from, trial_outcome, heading, report}
-
-five_ten : Code
-five_ten = record { rate = 5; n_tx = 10; family = 2; z = 1; k = 3; shortened = 0 }
+use Rattle.ahead.proofs.FiveTen.{five_ten}
 
 zero_four : Code
 zero_four = record { rate = 0; n_tx = 4; family = 1; z = 1; k = 1; shortened = 16 }
 
 -- ---- the draws of a block whose state is 1 at first; 43,254 is itself a draw, and no reversal at that setting
-draws : (info_drawn five_ten 1 ≡ 0 ∷ 1 ∷ 0 ∷ [])
-    × (tabulate (λ i. bit (is_reversed five_ten 43254 1 i)) 10 ≡ 0 ∷ 1 ∷ 0 ∷ 1 ∷ 0 ∷ 1 ∷ 1 ∷ 1 ∷ 0 ∷ 0 ∷ [])
+draws : (info_drawn (five_ten 5) 1 ≡ 0 ∷ 1 ∷ 0 ∷ [])
+    × (tabulate (λ i. bit (is_reversed (five_ten 5) 43254 1 i)) 10 ≡ 0 ∷ 1 ∷ 0 ∷ 1 ∷ 0 ∷ 1 ∷ 1 ∷ 1 ∷ 0 ∷ 0 ∷ [])
 unfolding five_ten draw info_drawn state_after next_state tabulate
 draws = (refl, refl)
 
 -- ---- two blocks of (5,10), setting 6554, seed 1; the report of five blocks of (0,4), setting 9000, seed 0
-trials : (records_from five_ten 6554 1 (replicate 68 nought) 2 ≡ 0 ∷ 1 ∷ 1 ∷ 1 ∷ 1 ∷ 1 ∷ 1 ∷ 1 ∷ 1 ∷ 1 ∷ [])
+trials : (records_from (five_ten 5) 6554 1 (replicate 68 nought) 2 ≡ 0 ∷ 1 ∷ 1 ∷ 1 ∷ 1 ∷ 1 ∷ 1 ∷ 1 ∷ 1 ∷ 1 ∷ [])
     × (report (records_from zero_four 9000 0 (replicate 400 nought) 5) 5 ≡ 5 ∷ 2 ∷ 54 ∷ 4 ∷ 0 ∷ 0 ∷ 1 ∷ [])
 unfolding xor lt add sub mul div of_int is_nan every some sum xor_sum count collect first folded
     information_columns parity_row tabulate rewritten negative magnitude next run row_list shift_list

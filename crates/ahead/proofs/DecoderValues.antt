@@ -29,15 +29,13 @@ use Rattle.ldpc.specs.Code.{code_graph, info_end, checks_of, work_of}
 use Rattle.coder.specs.Calls.{unsatisfied_of}
 use Rattle.channel.specs.Channel.{channel_of, start_memory}
 use Rattle.word.specs.Word.{word_of}
-use Rattle.ahead.specs.Schedules.{flooding, layered, factor_of, layer_to_check, layer_to_bit, layer_total, layer, layers, layered_iteration, step}
+use Rattle.ahead.specs.Schedules.{Schedule, flooding, layered, factor_of, layer_to_check, layer_to_bit, layer_total, layer, layers, layered_iteration, step}
 use Rattle.ahead.specs.Decoder.{Decode, iterated, unbroken, record_of, progress_of, eighths_in_force, run_of_grant, lowest_of, lowest_with_word, weighing_step, weighing_run, Lowest, no_lowest, first_lowest, Choices, lowest_after_grant, start_outcome, grant_outcome, read_outcome, preview_outcome, decode_outcome, outcome_by}
 use Rattle.decoder.specs.Decoding.{result_of}
 use Rattle.ahead.specs.Claim.{Accepted, sum_of, eighths_at}
 use Rattle.decoder.specs.Calls.{if_work, if_sum}
 use Rattle.ahead.specs.Refused.{if_eighths, if_new_eighths, if_slice}
-
-five_ten : ℕ → Code
-five_ten r = record { rate = r; n_tx = 10; family = 2; z = 1; k = 3; shortened = 0 }
+use Rattle.ahead.proofs.FiveTen.{five_ten}
 
 two_five : Code
 two_five = record { rate = 2; n_tx = 5; family = 2; z = 1; k = 1; shortened = 5 }
@@ -108,14 +106,14 @@ weighed_five =
 of_eighths : ℕ → Choices
 of_eighths e = record { eighths = e; schedule = flooding }
 
-record_at : ℕ → ℕ → ℕ → Bool → Decode
-record_at r e n b =
+unfoldable pub record_at : Schedule → ℕ → ℕ → ℕ → Bool → Decode
+record_at schedule r e n b =
     record {
       code = five_ten r;
       iterations = n;
       converged = b;
       eighths = e;
-      schedule = layered;
+      schedule = schedule;
       lowest = 65535;
       lowest_at = 0;
     }
@@ -141,25 +139,25 @@ known_values : let l : List Accepted = record { g = 2; eighths = 3 } ∷ record 
     × (start_outcome (five_ten 5) (of_eighths 9) (zeros 10) (Some (word_of_zeros 10)) (zeros 67)
     ≡ refused 13 9 8)
     × (start_outcome (five_ten 5) (of_eighths 8) (zeros 10) None (zeros 67) ≡ refused 8 67 68)
-    × (grant_outcome (record_at 6 0 65535 true) 1 (Some 9) (Some (word_of_zeros 9)) (zeros 67)
+    × (grant_outcome (record_at layered 6 0 65535 true) 1 (Some 9) (Some (word_of_zeros 9)) (zeros 67)
     ≡ refused 11 6 10)
-    × (grant_outcome (record_at 5 0 65535 true) 1 (Some 9) (Some (word_of_zeros 9)) (zeros 67) ≡ refused 9 9 10)
-    × (grant_outcome (record_at 5 0 65535 true) 1 (Some 9) (Some (word_of_zeros 10)) (zeros 67)
+    × (grant_outcome (record_at layered 5 0 65535 true) 1 (Some 9) (Some (word_of_zeros 9)) (zeros 67) ≡ refused 9 9 10)
+    × (grant_outcome (record_at layered 5 0 65535 true) 1 (Some 9) (Some (word_of_zeros 10)) (zeros 67)
     ≡ refused 13 0 1)
-    × (grant_outcome (record_at 5 1 65535 true) 1 (Some 9) (Some (word_of_zeros 10)) (zeros 67)
+    × (grant_outcome (record_at layered 5 1 65535 true) 1 (Some 9) (Some (word_of_zeros 10)) (zeros 67)
     ≡ refused 13 9 8)
-    × (grant_outcome (record_at 5 1 65535 true) 1 (Some 2) (Some (word_of_zeros 10)) (zeros 67)
+    × (grant_outcome (record_at layered 5 1 65535 true) 1 (Some 2) (Some (word_of_zeros 10)) (zeros 67)
     ≡ refused 8 67 68)
-    × (grant_outcome (record_at 5 1 65535 true) 1 (Some 2) (Some (word_of_zeros 10)) (zeros 68)
+    × (grant_outcome (record_at layered 5 1 65535 true) 1 (Some 2) (Some (word_of_zeros 10)) (zeros 68)
     ≡ refused 10 65536 65535)
-    × (has_eighths 3 (grant_outcome (record_at 5 1 65535 false) 0 (Some 3) None (zeros 68)) ≡ true)
-    × (has_eighths 1 (grant_outcome (record_at 5 1 65535 true) 0 (Some 3) None (zeros 68)) ≡ true)
-    × (read_outcome (record_at 5 9 0 false) (zeros 67) 9 ≡ refused 9 9 10)
-    × (read_outcome (record_at 5 9 0 false) (zeros 67) 10 ≡ refused 13 9 8)
-    × (preview_outcome (record_at 5 0 0 false) 1 (zeros 67) (zeros 66) 10 ≡ refused 13 0 1)
-    × (preview_outcome (record_at 5 1 65535 true) 1 (zeros 67) (zeros 66) 10 ≡ refused 8 67 68)
-    × (preview_outcome (record_at 5 1 65535 true) 1 (zeros 68) (zeros 66) 10 ≡ refused 8 66 68)
-    × (preview_outcome (record_at 5 1 65535 true) 1 (zeros 68) (zeros 68) 10 ≡ refused 10 65536 65535)
+    × (has_eighths 3 (grant_outcome (record_at layered 5 1 65535 false) 0 (Some 3) None (zeros 68)) ≡ true)
+    × (has_eighths 1 (grant_outcome (record_at layered 5 1 65535 true) 0 (Some 3) None (zeros 68)) ≡ true)
+    × (read_outcome (record_at layered 5 9 0 false) (zeros 67) 9 ≡ refused 9 9 10)
+    × (read_outcome (record_at layered 5 9 0 false) (zeros 67) 10 ≡ refused 13 9 8)
+    × (preview_outcome (record_at layered 5 0 0 false) 1 (zeros 67) (zeros 66) 10 ≡ refused 13 0 1)
+    × (preview_outcome (record_at layered 5 1 65535 true) 1 (zeros 67) (zeros 66) 10 ≡ refused 8 67 68)
+    × (preview_outcome (record_at layered 5 1 65535 true) 1 (zeros 68) (zeros 66) 10 ≡ refused 8 66 68)
+    × (preview_outcome (record_at layered 5 1 65535 true) 1 (zeros 68) (zeros 68) 10 ≡ refused 10 65536 65535)
     × (decode_outcome 9 21 (of_eighths 0) [] 1 [] 0 ≡ refused 1 1 21)
     × (decode_outcome 9 10 (of_eighths 0) [] 1 [] 0 ≡ refused 5 0 10)
     × (decode_outcome 9 10 (of_eighths 0) (zeros 10) 1 [] 0 ≡ refused 9 0 10)

@@ -15,6 +15,7 @@ use Rattle.ldpc.specs.declared.choice.Code.{Code}
 use Rattle.ldpc.specs.Choice.{lift_of, serves, code_of, family_code, tried_from, chosen, same_code, made, if_made}
 use Rattle.ldpc.specs.Code.{code_graph}
 use Rattle.ahead.specs.FullCount.{has_edge, shift_of_edge, full_cycles, lent_graph, full_outcome, code_cycles}
+use Rattle.ahead.proofs.FiveTen.{five_ten}
 
 -- two information columns
 two_columns : (full_outcome 5 2 (0 ∷ 1 ∷ 2 ∷ 0 ∷ 1 ∷ 2 ∷ []) (0 ∷ 0 ∷ 0 ∷ 0 ∷ 0 ∷ 1 ∷ []) 5 ≡ Ok 5)
@@ -46,13 +47,10 @@ unfolding full_outcome cycles_told first_fault faulty some first
 refusals = (refl, refl, refl, refl, refl, refl)
 
 -- of a code
-five_ten : Code
-five_ten = record { rate = 5; n_tx = 10; family = 2; z = 1; k = 3; shortened = 0 }
-
 not_made : Code
 not_made = record { rate = 5; n_tx = 10; family = 2; z = 1; k = 4; shortened = 0 }
 
-codes : (code_cycles five_ten ≡ Ok 0) × (code_cycles not_made ≡ refused 11 5 10)
+codes : (code_cycles (five_ten 5) ≡ Ok 0) × (code_cycles not_made ≡ refused 11 5 10)
 unfolding code_cycles if_made made same_code chosen tried_from family_code code_of serves lift_of five_ten not_made
     full_cycles has_edge shift_of_edge cycles_among closes congruent pair_sum sum some first edges edge_row edge_column
     edge_shift parity_row code_graph graph_of shape_of graph_number base_columns info_columns base_rows

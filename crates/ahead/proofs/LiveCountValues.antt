@@ -17,10 +17,7 @@ use Rattle.ldpc.specs.Choice.{lift_of, serves, code_of, family_code, tried_from,
 use Rattle.ldpc.specs.Code.{code_graph, info_end, checks_of}
 use Rattle.coder.specs.Calls.{if_bits}
 use Rattle.ahead.specs.Syndrome.{syndrome_of, is_joined, checks_with, sent_at, bytes_with_toggle, LiveWord, after_check, after_toggle, LiveCount, if_live, if_places, if_once, live_outcome, toggle_outcome, set_outcome}
-
--- a record that Choice gives at rate 5, and at no rate above
-code : ℕ → Code
-code r = record { rate = r; n_tx = 10; family = 2; z = 1; k = 3; shortened = 0 }
+use Rattle.ahead.proofs.FiveTen.{five_ten}
 
 zeros : ℕ → List ℕ
 zeros n = replicate n 0
@@ -32,15 +29,15 @@ short_code = record { rate = 2; n_tx = 5; family = 2; z = 1; k = 1; shortened = 
 -- ---- places 0 and 3, whose checks are 0, 2, 4 and 0, 3, 6: a count meets its limits in the midst of a toggle
 toggle_at : ℕ → List ℕ → List ℕ → ℕ → LiveWord
 toggle_at place word syndrome count =
-    after_toggle (code 5) (record { word = word; syndrome = syndrome; count = count }) place
+    after_toggle (five_ten 5) (record { word = word; syndrome = syndrome; count = count }) place
 
 one_at_3 : List ℕ → List ℕ
 one_at_3 behind = 0 ∷ 0 ∷ 0 ∷ 1 ∷ behind
 
 toggles : (sent_at short_code 1 ≡ 6)
-    × (syndrome_of (code 5) (one_at_3 (zeros 6)) ≡ 1 ∷ 0 ∷ 0 ∷ 1 ∷ 0 ∷ 0 ∷ 1 ∷ [])
-    × (checks_with (code_graph (code 5)) 1 0 ≡ 0 ∷ 2 ∷ 4 ∷ [])
-    × (checks_with (code_graph (code 5)) 1 3 ≡ 0 ∷ 3 ∷ 6 ∷ [])
+    × (syndrome_of (five_ten 5) (one_at_3 (zeros 6)) ≡ 1 ∷ 0 ∷ 0 ∷ 1 ∷ 0 ∷ 0 ∷ 1 ∷ [])
+    × (checks_with (code_graph (five_ten 5)) 1 0 ≡ 0 ∷ 2 ∷ 4 ∷ [])
+    × (checks_with (code_graph (five_ten 5)) 1 3 ≡ 0 ∷ 3 ∷ 6 ∷ [])
     × ((toggle_at 0 (zeros 10) (zeros 7) 0).syndrome ≡ 1 ∷ 0 ∷ 1 ∷ 0 ∷ 1 ∷ 0 ∷ 0 ∷ [])
     × ((toggle_at 0 (zeros 10) (zeros 7) 0).count ≡ 3)
     × ((toggle_at 0 (zeros 10) (zeros 7) 6).count ≡ 7)
@@ -55,17 +52,17 @@ toggles : (sent_at short_code 1 ≡ 6)
 unfolding xor some sum xor_sum collect first folded information_columns parity_row tabulate row_list shift_list
     graph_number base_columns info_columns base_rows first_column entry_at row_at shift_at shape_of graph_of
     edges edge_row edge_column edge_shift bit_at row_sum check_sum is_sent place_of lifted code_graph info_end checks_of
-    syndrome_of is_joined checks_with sent_at bytes_with_toggle after_check after_toggle code short_code zeros toggle_at one_at_3
+    syndrome_of is_joined checks_with sent_at bytes_with_toggle after_check after_toggle five_ten short_code zeros toggle_at one_at_3
 toggles = (refl, refl, refl, refl, refl, refl, refl, refl, refl, refl, refl, refl)
 
 -- ---- the order of the refusals, and their numbers
 live : ℕ → LiveCount
-live r = record { code = code r; count = 0 }
+live r = record { code = five_ten r; count = 0 }
 
-refusals : (live_outcome (code 7) (2 ∷ zeros 8) 6 ≡ refused 11 7 10)
-    × (live_outcome (code 5) (2 ∷ zeros 8) 6 ≡ refused 9 9 10)
-    × (live_outcome (code 5) (2 ∷ zeros 9) 6 ≡ refused 9 6 7)
-    × (live_outcome (code 5) (0 ∷ 2 ∷ zeros 8) 7 ≡ refused 6 1 2)
+refusals : (live_outcome (five_ten 7) (2 ∷ zeros 8) 6 ≡ refused 11 7 10)
+    × (live_outcome (five_ten 5) (2 ∷ zeros 8) 6 ≡ refused 9 9 10)
+    × (live_outcome (five_ten 5) (2 ∷ zeros 9) 6 ≡ refused 9 6 7)
+    × (live_outcome (five_ten 5) (0 ∷ 2 ∷ zeros 8) 7 ≡ refused 6 1 2)
     × (toggle_outcome (live 7) 10 (zeros 9) (zeros 6) ≡ refused 11 7 10)
     × (toggle_outcome (live 5) 10 (zeros 9) (zeros 6) ≡ refused 9 9 10)
     × (toggle_outcome (live 5) 10 (zeros 10) (zeros 6) ≡ refused 9 6 7)
@@ -81,5 +78,5 @@ refusals : (live_outcome (code 7) (2 ∷ zeros 8) 6 ≡ refused 11 7 10)
 unfolding some sum first information_columns tabulate
     graph_number base_columns info_columns base_rows shape_of graph_of edges code_graph checks_of
     lift_of serves code_of family_code tried_from chosen same_code made if_made if_length if_bits
-    if_live if_places if_once live_outcome toggle_outcome set_outcome code zeros live
+    if_live if_places if_once live_outcome toggle_outcome set_outcome five_ten zeros live
 refusals = (refl, refl, refl, refl, refl, refl, refl, refl, refl, refl, refl, refl, refl, refl, refl, refl)

@@ -1,7 +1,6 @@
 -- Pooling: known values, by computing. Assumes nothing.
 use mathlib.Core.Path.{◌≡◌, refl}
 use mathlib.Core.Bool.{true, false}
-use Prim.Native.Nat.{ℕ}
 use lib.IntN.{pos}
 use lib.Ieee.{nan, inf, fin, add, is_nan}
 use Rattle.std.specs.Prelude.{Ok}
@@ -9,9 +8,9 @@ use Rattle.laws.specs.Columns.{information_columns}
 use Rattle.laws.specs.Floats.{nought}
 use Rattle.refusals.specs.Outcome.{refused, if_length}
 use Rattle.tables.specs.Graph.{graph_number, base_columns, info_columns, base_rows, shape_of}
-use Rattle.ldpc.specs.declared.choice.Code.{Code}
 use Rattle.ldpc.specs.Choice.{lift_of, serves, code_of, family_code, tried_from, chosen, same_code, made, if_made}
 use Rattle.ahead.specs.Pooling.{pooled_number, pool_outcome}
+use Rattle.ahead.proofs.FiveTen.{five_ten}
 
 pools : (pooled_number nan (fin true 0 (pos 0)) ≡ nought)
     × (pooled_number (fin true 0 (pos 0)) (fin true 0 (pos 0)) ≡ fin true 0 (pos 0))
@@ -23,12 +22,9 @@ unfolding pooled_number add is_nan
 pools = (refl, refl, refl, refl, refl, refl)
 
 -- the order of the refusals: 11, 5 for the first pass, 5 for the second, 9
-code : ℕ → Code
-code rate = record { rate = rate; n_tx = 10; family = 2; z = 1; k = 3; shortened = 0 }
-
-refusals : (pool_outcome (code 7) 9 8 6 ≡ refused 11 7 10) × (pool_outcome (code 5) 9 8 6 ≡ refused 5 9 10)
-    × (pool_outcome (code 5) 10 8 6 ≡ refused 5 8 10) × (pool_outcome (code 5) 10 10 6 ≡ refused 9 6 10)
-    × (pool_outcome (code 5) 10 10 10 ≡ Ok tt)
+refusals : (pool_outcome (five_ten 7) 9 8 6 ≡ refused 11 7 10) × (pool_outcome (five_ten 5) 9 8 6 ≡ refused 5 9 10)
+    × (pool_outcome (five_ten 5) 10 8 6 ≡ refused 5 8 10) × (pool_outcome (five_ten 5) 10 10 6 ≡ refused 9 6 10)
+    × (pool_outcome (five_ten 5) 10 10 10 ≡ Ok tt)
 unfolding information_columns graph_number base_columns info_columns base_rows shape_of
-    lift_of serves code_of family_code tried_from chosen same_code made if_made if_length pool_outcome code
+    lift_of serves code_of family_code tried_from chosen same_code made if_made if_length pool_outcome five_ten
 refusals = (refl, refl, refl, refl, refl)

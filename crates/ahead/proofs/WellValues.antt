@@ -20,7 +20,6 @@ use Rattle.matrix.specs.Checks.{row_sum, check_sum, unmet, is_sent, place_of, li
 use Rattle.rule.specs.Rule.{started, taken, answered}
 use Rattle.messages.specs.Memory.{bits_of, slots_of, to_checks_at, to_bits_at}
 use Rattle.messages.specs.Iteration.{gathered, answer, to_bit, check_pass, added, total, total_pass, to_check, send_pass, iteration, decision, settled}
-use Rattle.ldpc.specs.declared.choice.Code.{Code}
 use Rattle.ldpc.specs.Choice.{lift_of, serves, code_of, family_code, tried_from, chosen, same_code, made, if_made}
 use Rattle.ldpc.specs.Code.{code_graph, info_end, checks_of, work_of}
 use Rattle.channel.specs.Channel.{channel_of, start_memory}
@@ -29,21 +28,11 @@ use Rattle.ahead.specs.Refused.{if_eighths}
 use Rattle.ahead.specs.Schedules.{flooding, factor_of, step}
 use Rattle.ahead.specs.Decoder.{Decode, iterated, unbroken, record_of, progress_of, eighths_in_force, run_of_grant, lowest_of}
 use Rattle.ahead.specs.Wells.{Pad, no_decode, part_of, memory_with_part, scan_after_deal_to, scan_after_deal, scan_after_deals, first_fault, well_outcome, scan_outcome, scan_told}
-
-code : ℕ → Code
-code r = record { rate = r; n_tx = 10; family = 2; z = 1; k = 3; shortened = 0 }
+use Rattle.ahead.proofs.DecoderValues.{record_at}
+use Rattle.ahead.proofs.FiveTen.{five_ten}
 
 well : ℕ → ℕ → ℕ → Bool → Decode
-well r e n b =
-    record {
-      code = code r;
-      iterations = n;
-      converged = b;
-      eighths = e;
-      schedule = flooding;
-      lowest = 65535;
-      lowest_at = 0;
-    }
+well = record_at flooding
 
 plus : Float
 plus = fin false 1 (pos 0)
@@ -64,9 +53,9 @@ zeros n = replicate n nought
 -- are dealt here
 memory : List Float
 memory =
-    start_memory (code 5) unsettled (zeros 68)
-    ++ (start_memory (code 5) settled_at_once (zeros 68)
-    ++ (start_memory (code 5) unsettled (zeros 68) ++ zeros 2))
+    start_memory (five_ten 5) unsettled (zeros 68)
+    ++ (start_memory (five_ten 5) settled_at_once (zeros 68)
+    ++ (start_memory (five_ten 5) unsettled (zeros 68) ++ zeros 2))
 
 pad : ℕ → ℕ → Decode → Decode → Decode → Pad
 pad n last a b d = record { wells = n; last = last; decodes = a ∷ b ∷ d ∷ replicate 13 no_decode }
@@ -124,5 +113,5 @@ unfolding xor lt add sub mul div of_int is_nan every some sum pair_sum xor_sum c
     factor_of step iterated unbroken record_of progress_of eighths_in_force run_of_grant lowest_of
     no_decode part_of memory_with_part scan_after_deal_to scan_after_deal scan_after_deals first_fault
     well_outcome scan_outcome scan_told
-    code well plus minus unsettled settled_at_once zeros memory pad numbers_of numbers fresh
+    five_ten record_at well plus minus unsettled settled_at_once zeros memory pad numbers_of numbers fresh
 scans = (refl, refl, refl, refl, refl, refl, refl, refl, refl, refl, refl, refl, refl, refl, refl, refl, refl)
