@@ -29,13 +29,13 @@ use Rattle.ldpc.specs.Code.{code_graph, info_end, checks_of, work_of}
 use Rattle.coder.specs.Calls.{unsatisfied_of}
 use Rattle.channel.specs.Channel.{channel_of, start_memory}
 use Rattle.word.specs.Word.{word_of}
-use Rattle.ahead.specs.Schedules.{Schedule, flooding, layered, factor_of, layer_to_check, layer_to_bit, layer_total, layer, layers, layered_iteration, step}
+use Rattle.ahead.specs.Schedules.{flooding, layered, factor_of, layer_to_check, layer_to_bit, layer_total, layer, layers, layered_iteration, step}
 use Rattle.ahead.specs.Decoder.{Decode, iterated, unbroken, record_of, progress_of, eighths_in_force, run_of_grant, lowest_of, lowest_with_word, weighing_step, weighing_run, Lowest, no_lowest, first_lowest, Choices, lowest_after_grant, start_outcome, grant_outcome, read_outcome, preview_outcome, decode_outcome, outcome_by}
 use Rattle.decoder.specs.Decoding.{result_of}
 use Rattle.ahead.specs.Claim.{Accepted, sum_of, eighths_at}
 use Rattle.decoder.specs.Calls.{if_work, if_sum}
 use Rattle.ahead.specs.Refused.{if_eighths, if_new_eighths, if_slice}
-use Rattle.ahead.proofs.FiveTen.{five_ten}
+use Rattle.ahead.proofs.FiveTen.{five_ten, record_at}
 
 two_five : Code
 two_five = record { rate = 2; n_tx = 5; family = 2; z = 1; k = 1; shortened = 5 }
@@ -105,18 +105,6 @@ weighed_five =
 
 of_eighths : ℕ → Choices
 of_eighths e = record { eighths = e; schedule = flooding }
-
-unfoldable pub record_at : Schedule → ℕ → ℕ → ℕ → Bool → Decode
-record_at schedule r e n b =
-    record {
-      code = five_ten r;
-      iterations = n;
-      converged = b;
-      eighths = e;
-      schedule = schedule;
-      lowest = 65535;
-      lowest_at = 0;
-    }
 
 has_eighths : ℕ → Outcome Decode → Bool
 has_eighths e (Ok d) = eqb d.eighths e

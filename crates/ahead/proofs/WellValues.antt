@@ -28,8 +28,7 @@ use Rattle.ahead.specs.Refused.{if_eighths}
 use Rattle.ahead.specs.Schedules.{flooding, factor_of, step}
 use Rattle.ahead.specs.Decoder.{Decode, iterated, unbroken, record_of, progress_of, eighths_in_force, run_of_grant, lowest_of}
 use Rattle.ahead.specs.Wells.{Pad, no_decode, part_of, memory_with_part, scan_after_deal_to, scan_after_deal, scan_after_deals, first_fault, well_outcome, scan_outcome, scan_told}
-use Rattle.ahead.proofs.DecoderValues.{record_at}
-use Rattle.ahead.proofs.FiveTen.{five_ten}
+use Rattle.ahead.proofs.FiveTen.{five_ten, record_at}
 
 well : ℕ → ℕ → ℕ → Bool → Decode
 well = record_at flooding
