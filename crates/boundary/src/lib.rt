@@ -9,4 +9,4 @@ mod records;
 
 pub use answers::{ANSWER, Answer, OUTPUT, tell};
 pub use codes::{put_rate, work_needed};
-pub use records::{CODE, DECODE, code_numbers, code_of, decode_numbers, decode_of};
+pub use records::{CODE, DECODE, code_in, code_numbers, code_of, decode_numbers, decode_of};

@@ -1,7 +1,7 @@
 // Records read from numbers, and written to them.
-ghost use Rattle.std.specs.Prelude.{◌≡◌, Ok};
+ghost use Rattle.std.specs.Prelude.{◌≡◌, ◌≤◌, length, Ok};
 ghost use Rattle.refusals.specs.Outcome.{outcome};
-ghost use Rattle.boundary.specs.Answers.{code_numbers, decode_numbers, if_code, if_decode};
+ghost use Rattle.boundary.specs.Answers.{code_in, code_numbers, decode_numbers, if_code, if_decode};
 
 use decoder::Decode;
 use ldpc::Code;
@@ -14,25 +14,28 @@ pub const CODE: usize = 6;
 
 pub const DECODE: usize = 8;
 
-// The code record in six numbers.
+// The code record in the first six numbers.
 #[tactic(auto, unfolding(crate::specs::Answers::code_in))]
+pub fn code_in(numbers: &[usize]) -> Code
+    requires { 6 ≤ length numbers.now }
+    ensures { result ≡ code_in numbers.now }
+{
+    Code {
+        rate: numbers[0],
+        n_tx: numbers[1],
+        family: numbers[2],
+        z: numbers[3],
+        k: numbers[4],
+        shortened: numbers[5],
+    }
+}
+
+// The code record in six numbers.
 pub fn code_of(numbers: &[usize]) -> Result<Code, Refusal>
     ensures { outcome result ≡ if_code numbers.now (λ c. Ok c) }
 {
-    let [rate, n_tx, family, z, k, shortened] = *numbers else {
-        return Err(Refusal::Input {
-            given: numbers.len(),
-            wanted: CODE,
-        });
-    };
-    Ok(Code {
-        rate,
-        n_tx,
-        family,
-        z,
-        k,
-        shortened,
-    })
+    refusals::input(numbers.len(), CODE)?;
+    Ok(code_in(numbers))
 }
 
 // The decode record in eight numbers, whose last two are iterations of 16 bits and a bit.
@@ -40,23 +43,15 @@ pub fn code_of(numbers: &[usize]) -> Result<Code, Refusal>
 pub fn decode_of(numbers: &[usize]) -> Result<Decode, Refusal>
     ensures { outcome result ≡ if_decode numbers.now (λ d. Ok d) }
 {
-    let [rate, n_tx, family, z, k, shortened, iterations, converged] = *numbers else {
+    let [rate, n_tx, _, _, _, _, iterations, converged] = *numbers else {
         return Err(Refusal::Input {
             given: numbers.len(),
             wanted: DECODE,
         });
     };
-    let code = Code {
-        rate,
-        n_tx,
-        family,
-        z,
-        k,
-        shortened,
-    };
     match (u16::try_from(iterations), converged) {
         (Ok(iterations), 0 | 1) => Ok(Decode {
-            code,
+            code: code_in(numbers),
             iterations,
             converged: converged == 1,
         }),

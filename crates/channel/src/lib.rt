@@ -54,8 +54,6 @@ pub fn begin(code: ValidCode, rx: &[f32], work: &mut [f32])
     requires room { work_of code.code ≤ length work.old }
     ensures { work.new ≡ start_memory code.code rx.now work.old }
 {
-    let mut lists = Lists::blank();
-    lists::write_lists(code, &mut lists);
-    let l = Lifted::new(code, &lists);
-    put_messages(&l, rx, work);
+    let mut room = Lists::blank();
+    put_messages(&Lifted::of(code, &mut room), rx, work);
 }

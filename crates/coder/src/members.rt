@@ -19,7 +19,9 @@ fn count_unmet(g: &CodeGraph, word: Bits<'_>, room: &mut [u8]) -> usize
     bits::count_ones(syndrome)
 }
 
-// The same, in memory of its own, for at most N checks.
+// The same, in memory of its own, for at most N checks. Not inlined: its memory is on the stack only while it counts, and a short
+// lift has only its own.
+#[inline(never)]
 fn unmet_in<const N: usize>(g: &CodeGraph, word: Bits<'_>) -> usize
     requires { (N ≤ 12636) × (checks_of g.now.code.code ≤ N) }
     ensures { result ≡ unsatisfied_of g.now.code.code word.entry.bytes.now }

@@ -1,4 +1,6 @@
 // A row of the choice, as the table prints it.
+ghost use Rattle.std.specs.Prelude.{◌≡◌, cond, eqb, codes};
+
 use ldpc::Code;
 use std::fmt;
 
@@ -10,7 +12,9 @@ pub struct Choice {
 }
 
 // The family is a number, as records are plain numbers.
-fn family_name(family: usize) -> &'static str {
+fn family_name(family: usize) -> &'static str
+    ensures { result.now ≡ cond (eqb family 0) (codes "large") (cond (eqb family 1) (codes "small") (codes "tiny")) }
+{
     match family {
         0 => "large",
         1 => "small",

@@ -1,12 +1,15 @@
 // The decodes of the table: those of (5,10) by start, grant and read, that of (5,9) by the one call. Both codes need 68
 // numbers of work memory.
-use anyhow::Result;
+ghost use Rattle.std.specs.Prelude.{◌≡◌, cond, codes};
+
 use decoder::{Decode, DecodeResult};
 use ldpc::Code;
-use readings::Bits;
+use readings::{Bits, Result};
 
 // What is not so is printed after "not".
-fn not_unless(so: bool) -> &'static str {
+fn not_unless(so: bool) -> &'static str
+    ensures { result.now ≡ cond so (codes "") (codes "not ") }
+{
     if so { "" } else { "not " }
 }
 

@@ -5,10 +5,9 @@
 mod choice;
 mod decodes;
 
-use anyhow::Result;
 use choice::Choice;
 use ldpc::Code;
-use readings::Bits;
+use readings::{Bits, Result};
 
 // The rows of the choice: the star, the rate and n_tx. Between the two lists stands the row of a code that is to be another
 // rate's.
@@ -27,7 +26,7 @@ const CHOICES: [(&str, usize, usize); 10] = [
 
 const LONG_CHOICES: [(&str, usize, usize); 3] = [("", 0, 61), ("", 0, 19440), ("", 0, 19441)];
 
-// The rows of encodings: the rate, n_tx and the information.
+// The rows of encodings: the rate, n_tx, which is 22 at most, and the information.
 const ENCODINGS: [(usize, usize, &[u8]); 3] = [
     (5, 10, &[1, 0, 0]),
     (5, 10, &[0, 1, 0]),
@@ -41,11 +40,12 @@ fn print_choices(rt: &impl Print, rows: &[(&str, usize, usize)]) -> Result<()> {
     Ok(())
 }
 
-fn print_encodings(rt: &(impl Print + AllocGlobal)) -> Result<()> {
+fn print_encodings(rt: &impl Print) -> Result<()> {
     for (rate, n_tx, info) in ENCODINGS {
-        let mut word = vec![in rt.alloc(); 0u8; n_tx]?;
-        coder::encode(Code::new(rate, n_tx)?, info, &mut word)?;
-        println!(rt; "*({rate},{n_tx}) {} gives {}", Bits(info), Bits(&word))?;
+        let mut word = [0; 22];
+        let word = &mut word[..n_tx.min(22)];
+        coder::encode(Code::new(rate, n_tx)?, info, word)?;
+        println!(rt; "*({rate},{n_tx}) {} gives {}", Bits(info), Bits(word))?;
     }
     Ok(())
 }

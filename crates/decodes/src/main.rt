@@ -7,8 +7,8 @@
 mod answers;
 mod inputs;
 
-use anyhow::Result;
 use ldpc::Code;
+use readings::Result;
 
 // Rates and lengths: five of the tiny family, five of the small one, and ten of the large one with lifts from 1 to 17. A rate
 // above 5 counts as 5.

@@ -16,7 +16,7 @@ use Rattle.matrix.proofs.Simple.{Simple}
 use Rattle.std.proofs.lemmas.List.{take-append-drop, append_assoc}
 use Rattle.messages.specs.Memory.{bits_of, slots_of, to_checks_at, to_bits_at, needed, reading, number}
 use Rattle.messages.specs.Iteration.{added, check_pass, total, total_pass, to_check, send_pass, iteration}
-use Rattle.messages.specs.Regions.{Memory, memory_of, numbers_of, to_bits_of, total_of, totals_of, to_check_of, to_checks_of, iterated_regions}
+use Rattle.messages.specs.Regions.{Memory, memory_of, numbers_of, to_bits_of, total_of, totals_of, to_check_of, to_checks_of, passed_regions, iterated_regions}
 use Rattle.messages.proofs.Local.{edge_bit, to_bit_agrees, added_agrees}
 
 -- a list in three parts, of which the middle is rewritten, and read
@@ -116,65 +116,72 @@ module _ (n e : ℕ) (m : Memory) (C : Cut n e m) where
       ap (λ w. reading w (2 * n + e) s) four
       ∙ read_part (2 * n + e) e ((m.channel ++ m.totals) ++ m.to_checks) m.to_bits _ three_long C.to_bits nan s h
 
--- an iteration, region by region
-module _ (g : BaseGraph) (simple : Simple g) (z : ℕ) (lift : 0 < z) (factor : Float) (m : Memory) (C : Cut (bits_of g z) (slots_of g z) m) where
+-- the bit pass, region by region, of any messages to bits
+module _ (g : BaseGraph) (simple : Simple g) (z : ℕ) (lift : 0 < z) (m : Memory) (C : Cut (bits_of g z) (slots_of g z) m) where
   abbrev N : ℕ
   N = bits_of g z
 
   abbrev E : ℕ
   E = slots_of g z
 
-  abbrev bits : List Float
-  bits = to_bits_of factor g z m.to_checks
-
   abbrev sums : List Float
-  sums = totals_of g z m.channel bits
+  sums = totals_of g z m.channel m.to_bits
 
-  -- the memory after the first pass, and after the second
-  abbrev first : Memory
-  first = record { channel = m.channel; totals = m.totals; to_checks = m.to_checks; to_bits = bits; beyond = m.beyond }
-
+  -- the memory once the totals stand in it
   abbrev second : Memory
-  second = record { channel = m.channel; totals = sums; to_checks = m.to_checks; to_bits = bits; beyond = m.beyond }
-
-  cut_first : Cut N E first
-  unfolding to_bits_of
-  cut_first = record { channel = C.channel; totals = C.totals; to_checks = C.to_checks; to_bits = length_tabulate _ E }
+  second = record { channel = m.channel; totals = sums; to_checks = m.to_checks; to_bits = m.to_bits; beyond = m.beyond }
 
   cut_second : Cut N E second
   unfolding totals_of
-  cut_second = record { channel = C.channel; totals = length_tabulate _ N; to_checks = C.to_checks; to_bits = cut_first.to_bits }
+  cut_second = record { channel = C.channel; totals = length_tabulate _ N; to_checks = C.to_checks; to_bits = C.to_bits }
+
+  totalled : total_pass g z (numbers_of m) ≡ numbers_of second
+  unfolding total_pass totals_of total_of total to_bits_at
+  totalled =
+      totals_rewritten N E m C _
+      ∙ ap (λ t. numbers_of (record { channel = m.channel; totals = t; to_checks = m.to_checks; to_bits = m.to_bits; beyond = m.beyond }))
+      (tabulate_ext _ _ N (λ v h.
+      added_agrees g z lift (number m.to_bits) (reading (numbers_of m) (to_bits_at g z)) (to_bits_read N E m C) v _
+      ∙ ap (λ x. folded (added g z (number m.to_bits) v) x (edges_by_row g g.shape.m_b)) (channel_read N E m C v h)))
+
+  sent : send_pass g z (numbers_of second) ≡ numbers_of (passed_regions g z m)
+  unfolding send_pass to_check to_checks_of to_check_of totals_of to_checks_at to_bits_at slots_of passed_regions
+  sent =
+      to_checks_rewritten N E second cut_second _
+      ∙ ap (λ k. numbers_of (record { channel = m.channel; totals = sums; to_checks = k; to_bits = m.to_bits; beyond = m.beyond }))
+      (tabulate_ext _ _ E (λ s h.
+      let inside = edge_bit g simple z lift (s / z) (s % z) (edge_lt lift h) in
+      ap₂ (sub binary32)
+      (totals_read N E second cut_second _ inside ∙ get_d_tabulate nan (total_of g z m.channel m.to_bits) N _ inside)
+      (to_bits_read N E second cut_second s h)))
+
+  passed : send_pass g z (total_pass g z (numbers_of m)) ≡ numbers_of (passed_regions g z m)
+  passed = ap (send_pass g z) totalled ∙ sent
+
+-- an iteration, region by region
+module _ (g : BaseGraph) (simple : Simple g) (z : ℕ) (lift : 0 < z) (factor : Float) (m : Memory) (C : Cut (bits_of g z) (slots_of g z) m) where
+  abbrev bits : List Float
+  bits = to_bits_of factor g z m.to_checks
+
+  -- the memory after the check pass
+  abbrev first : Memory
+  first = record { channel = m.channel; totals = m.totals; to_checks = m.to_checks; to_bits = bits; beyond = m.beyond }
+
+  cut_first : Cut (bits_of g z) (slots_of g z) first
+  unfolding to_bits_of
+  cut_first = record { channel = C.channel; totals = C.totals; to_checks = C.to_checks; to_bits = length_tabulate _ (slots_of g z) }
 
   checked : check_pass factor g z (numbers_of m) ≡ numbers_of first
   unfolding check_pass to_bits_of to_checks_at to_bits_at
   checked =
-      to_bits_rewritten N E m C _
+      to_bits_rewritten (bits_of g z) (slots_of g z) m C _
       ∙ ap (λ b. numbers_of (record { channel = m.channel; totals = m.totals; to_checks = m.to_checks; to_bits = b; beyond = m.beyond }))
-      (tabulate_ext _ _ E (to_bit_agrees g z lift (number m.to_checks) (reading (numbers_of m) (to_checks_at g z)) (to_checks_read N E m C) factor))
-
-  totalled : total_pass g z (numbers_of first) ≡ numbers_of second
-  unfolding total_pass totals_of total_of total to_bits_at
-  totalled =
-      totals_rewritten N E first cut_first _
-      ∙ ap (λ t. numbers_of (record { channel = m.channel; totals = t; to_checks = m.to_checks; to_bits = bits; beyond = m.beyond }))
-      (tabulate_ext _ _ N (λ v h.
-      added_agrees g z lift (number bits) (reading (numbers_of first) (to_bits_at g z)) (to_bits_read N E first cut_first) v _
-      ∙ ap (λ x. folded (added g z (number bits) v) x (edges_by_row g g.shape.m_b)) (channel_read N E first cut_first v h)))
-
-  sent : send_pass g z (numbers_of second) ≡ numbers_of (iterated_regions factor g z m)
-  unfolding send_pass to_check to_checks_of to_check_of totals_of to_checks_at to_bits_at slots_of iterated_regions
-  sent =
-      to_checks_rewritten N E second cut_second _
-      ∙ ap (λ k. numbers_of (record { channel = m.channel; totals = sums; to_checks = k; to_bits = bits; beyond = m.beyond }))
-      (tabulate_ext _ _ E (λ s h.
-      let inside = edge_bit g simple z lift (s / z) (s % z) (edge_lt lift h) in
-      ap₂ (sub binary32)
-      (totals_read N E second cut_second _ inside ∙ get_d_tabulate nan (total_of g z m.channel bits) N _ inside)
-      (to_bits_read N E second cut_second s h)))
+      (tabulate_ext _ _ (slots_of g z)
+      (to_bit_agrees g z lift (number m.to_checks) (reading (numbers_of m) (to_checks_at g z)) (to_checks_read (bits_of g z) (slots_of g z) m C) factor))
 
   iterated : iteration factor g z (numbers_of m) ≡ numbers_of (iterated_regions factor g z m)
-  unfolding iteration
-  iterated = ap (λ w. send_pass g z (total_pass g z w)) checked ∙ ap (send_pass g z) totalled ∙ sent
+  unfolding iteration iterated_regions passed_regions
+  iterated = ap (λ w. send_pass g z (total_pass g z w)) checked ∙ passed g simple z lift first cut_first
 
 -- of a memory that holds the needed numbers
 pub iteration_by_regions : (g : BaseGraph) → Simple g → (z : ℕ) → 0 < z → (factor : Float) (w : List Float) → needed g z ≤ length w
@@ -183,3 +190,11 @@ unfolding needed
 iteration_by_regions g simple z lift factor w room =
     ap (iteration factor g z) (sym (together (bits_of g z) (slots_of g z) w))
     ∙ iterated g simple z lift factor (memory_of (bits_of g z) (slots_of g z) w) (cut (bits_of g z) (slots_of g z) w room)
+
+-- the bit pass of such a memory, whatever its messages to bits
+pub bit_pass_by_regions : (g : BaseGraph) → Simple g → (z : ℕ) → 0 < z → (w : List Float) → needed g z ≤ length w
+    → send_pass g z (total_pass g z w) ≡ numbers_of (passed_regions g z (memory_of (bits_of g z) (slots_of g z) w))
+unfolding needed
+bit_pass_by_regions g simple z lift w room =
+    ap (λ w. send_pass g z (total_pass g z w)) (sym (together (bits_of g z) (slots_of g z) w))
+    ∙ passed g simple z lift (memory_of (bits_of g z) (slots_of g z) w) (cut (bits_of g z) (slots_of g z) w room)

@@ -50,6 +50,17 @@ to_check_of g z channel to_bits s = sub binary32 (total_of g z channel to_bits (
 unfoldable pub to_checks_of : BaseGraph → ℕ → List Float → List Float → List Float
 to_checks_of g z channel to_bits = tabulate (to_check_of g z channel to_bits) (slots_of g z)
 
+-- the bit pass: the totals, and what the bits send
+unfoldable pub passed_regions : BaseGraph → ℕ → Memory → Memory
+passed_regions g z m =
+    record {
+      channel = m.channel;
+      totals = totals_of g z m.channel m.to_bits;
+      to_checks = to_checks_of g z m.channel m.to_bits;
+      to_bits = m.to_bits;
+      beyond = m.beyond;
+    }
+
 -- an iteration
 unfoldable pub iterated_regions : Float → BaseGraph → ℕ → Memory → Memory
 iterated_regions factor g z m =

@@ -8,8 +8,9 @@ mod compared;
 ghost use Rattle.std.specs.Prelude.{◌≡◌, ◌≤◌};
 ghost use Rattle.rebuild.specs.Compared.{table_seed};
 
-use anyhow::Result;
 use columns::Columns;
+use readings::Result;
+use tables::BaseGraph;
 
 const LIFTS: [usize; 5] = [2, 8, 32, 128, 324];
 
@@ -22,24 +23,23 @@ fn table_seed(rate: usize, n_b: usize) -> u64
     (0x5EED0000 + 977 * rate + n_b) as u64
 }
 
-// Builds the graph of a rate and a family anew, at 85, 75, 65, 55, 45 or 35 percent. The family is a number,
-// as the table's calls take any.
-#[tactic(auto, using(tables::proofs::Sizes::shaped), unfolding(tables::specs::Graph::graph_of))]
-fn print_graph(rt: &(impl Print + AllocGlobal), rate: usize, family: usize) -> Result<()>
-    requires { rate ≤ 5 }
+// The places of 51 information columns, the most that a graph of the table has.
+const MOST: usize = 153;
+
+// Builds the graph of a table's sizes anew and prints how it differs. The percent and the seed are the table's.
+fn print_built(rt: &impl Print, table: &BaseGraph, percent: usize, seed: u64) -> Result<()>
+    requires { table.now.shape.k_b ≤ 51 }
 {
-    let table = tables::graph_of(rate, family);
     let n_b = table.shape.n_b;
     let count = table.shape.k_b;
     let n = 3 * count;
-    let mut rows = vec![in rt.alloc(); 0u8; n]?;
-    let mut shifts = vec![in rt.alloc(); 0u16; n]?;
-    let percent = 85 - 10 * rate;
-    graph::build(n_b, percent, table_seed(rate, n_b), &mut rows, &mut shifts)?;
+    let mut rows = [0; MOST];
+    let mut shifts = [0; MOST];
+    graph::build(n_b, percent, seed, &mut rows[..n], &mut shifts[..n])?;
     let built = Columns {
         count,
-        rows: &rows,
-        shifts: &shifts,
+        rows: &rows[..n],
+        shifts: &shifts[..n],
     };
     let stored = Columns {
         count,
@@ -47,7 +47,7 @@ fn print_graph(rt: &(impl Print + AllocGlobal), rate: usize, family: usize) -> R
         shifts: &table.shifts[..n],
     };
     print!(rt;
-        "{family} {rate} differ {} cycles",
+        " differ {} cycles",
         compared::columns_differ(&built, &stored)
     )?;
     for z in LIFTS {
@@ -56,6 +56,17 @@ fn print_graph(rt: &(impl Print + AllocGlobal), rate: usize, family: usize) -> R
     }
     println!(rt;)?;
     Ok(())
+}
+
+// The graph of a rate and a family, at 85, 75, 65, 55, 45 or 35 percent. The family is a number, as the table's calls take any.
+#[tactic(auto, using(tables::proofs::Sizes::shaped), unfolding(tables::specs::Graph::graph_of))]
+fn print_graph(rt: &impl Print, rate: usize, family: usize) -> Result<()>
+    requires { rate ≤ 5 }
+{
+    let table = tables::graph_of(rate, family);
+    let seed = table_seed(rate, table.shape.n_b);
+    print!(rt; "{family} {rate}")?;
+    print_built(rt, &table, 85 - 10 * rate, seed)
 }
 
 fn main(rt: HostRuntime) -> Result<()> {

@@ -3,10 +3,9 @@ ghost use Rattle.std.specs.Prelude.{◌≡◌};
 ghost use Rattle.readings.specs.Sums.{sum_step};
 
 use crate::inputs::in_full;
-use anyhow::Result;
 use base_edges::Edge;
 use ldpc::Code;
-use readings::{checksum, sum_step};
+use readings::{Result, checksum, sum_step};
 use std::{fmt, io};
 
 // The members of a check, each after a space.

@@ -1,6 +1,7 @@
 // Lengths and words that are computed, and what is printed in full.
 ghost use Rattle.std.specs.Prelude.{◌≡◌, ◌<◌, length};
-ghost use Rattle.coder.specs.Calls.{encode_written};
+ghost use Rattle.refusals.specs.Outcome.{outcome};
+ghost use Rattle.coder.specs.Calls.{encode_told, encode_written};
 ghost use Rattle.readings.specs.Generator.{random_bits};
 ghost use Rattle.replay.specs.Inputs.{spread_length, in_full, flipped};
 
@@ -31,6 +32,7 @@ pub fn flip(word: &mut [u8], i: usize)
 
 // Writes the encoding of the generator's bits, in memory of the right lengths.
 pub fn write_encoding(c: Code, seed: usize, info: &mut [u8], word: &mut [u8]) -> Result<(), Refusal>
+    ensures result_value { outcome result ≡ encode_told c (random_bits seed (length info.old)) (length word.old) }
     ensures info_after { info.new ≡ random_bits seed (length info.old) }
     ensures word_after { word.new ≡ encode_written c (random_bits seed (length info.old)) word.old }
 {

@@ -8,8 +8,8 @@ mod choices;
 mod inputs;
 mod words;
 
-use anyhow::Result;
 use ldpc::Code;
+use readings::Result;
 use std::io;
 
 // Rates and lengths: ten of the tiny family, nine of the small one, and twelve of the large one with lifts from 1 to 17.

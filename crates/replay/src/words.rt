@@ -1,8 +1,8 @@
 // Encodings, and unsatisfied counts of words. Both of codes of up to 1,000 bits.
-ghost use Rattle.std.specs.Prelude.{◌≡◌};
+ghost use Rattle.std.specs.Prelude.{◌≡◌, ◌/◌, length};
 ghost use Rattle.refusals.specs.Outcome.{outcome};
 ghost use Rattle.coder.specs.Calls.{unsatisfied_told};
-ghost use Rattle.replay.specs.Inputs.{changed};
+ghost use Rattle.replay.specs.Inputs.{changed, flipped};
 
 use crate::inputs::{flip, write_encoding};
 use ldpc::Code;
@@ -22,6 +22,7 @@ struct Counts {
 fn changed_counts(c: Code, word: &mut [u8]) -> Counts
     ensures word_after { word.new ≡ changed word.old }
     ensures first { outcome result.as_it_is ≡ unsatisfied_told c word.old }
+    ensures middle { outcome result.one_changed ≡ unsatisfied_told c (flipped word.old (length word.old / 3)) }
     ensures last { outcome result.three_changed ≡ unsatisfied_told c word.new }
 {
     let n = word.len();

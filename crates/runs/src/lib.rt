@@ -50,6 +50,7 @@ pub fn go_on(code: ValidCode, from: Reach, g: u16, work: &mut [f32]) -> Reach
     if from.converged {
         return from;
     }
+    // not by `Lifted::of`: then the compiler makes another bit pass, by which 200 bits take 25 in 100 more instructions
     let mut lists = Lists::blank();
     lists::write_lists(code, &mut lists);
     iterations(&Lifted::new(code, &lists), from, g, work)

@@ -7,7 +7,7 @@ mod sizes;
 ghost use Rattle.std.specs.Prelude.{◌≡◌, ◌+◌, ◌*◌, ◌<◌, ◌≤◌};
 ghost use Rattle.matrix.specs.Edges.{row_edges, ColumnList};
 ghost use Rattle.ldpc.specs.Code.{code_graph, work_of};
-ghost use Rattle.lists.specs.Lists.{lists_of};
+ghost use Rattle.lists.specs.Lists.{lists_of, blank};
 ghost use Rattle.sizes.specs.Sizes.{sizes_of};
 
 use ldpc::ValidCode;
@@ -45,6 +45,15 @@ impl<'a> Lifted<'a> {
             sizes: sizes_of(code),
             lists,
         }
+    }
+
+    // Of a code alone: its lists are written to `room`, so that whoever has a code that Choice gives proves nothing of lists.
+    pub fn of(code: ValidCode, room: &'a mut Lists) -> Lifted<'a>
+        requires { room.old ≡ blank }
+        ensures { result.code.code ≡ code.code }
+    {
+        lists::write_lists(code, room);
+        Lifted::new(code, room)
     }
 
     // The base edges of row r.

@@ -3,7 +3,7 @@ use mathlib.Core.Path.{◌≡◌, refl, sym, ap, ◌∙◌}
 use mathlib.Core.Bool.{Bool, true, false, true≢false}
 use lib.Ieee.{Float, nan, inf, fin, binary32, fits, is_nan, of_bits, to_bits}
 use lib.Ieee.Bits.{of_bits-to_bits}
-use borrow.Author.Tests.{eq-eqb, ne_eqb}
+use borrow.Author.Tests.{eq-eqb, ne_eqb, eqb-true}
 use Rattle.soak.specs.Compare.{same_number}
 
 is_same : (x y : Float) → x ≡ y → same_number x y ≡ true
@@ -11,6 +11,11 @@ unfolding same_number
 is_same x y e = eq-eqb _ _ (ap (to_bits binary32) e)
 
 -- the bits of a number that fits say which it is
+pub same_is : (x y : Float) → fits binary32 x ≡ true → fits binary32 y ≡ true → same_number x y ≡ true → x ≡ y
+unfolding same_number
+same_is x y p q s =
+    sym (of_bits-to_bits binary32 x (rw p tt)) ∙ ap (of_bits binary32) (eqb-true _ _ s) ∙ of_bits-to_bits binary32 y (rw q tt)
+
 other : (x y : Float) → fits binary32 x ≡ true → fits binary32 y ≡ true → (x ≡ y → ⊥) → same_number x y ≡ false
 unfolding same_number
 other x y p q n =

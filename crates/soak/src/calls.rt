@@ -1,10 +1,11 @@
 // The calls of a list: how one is drawn, and what it is to refuse. Assumes nothing.
 ghost use Rattle.std.specs.Prelude.{◌≡◌};
+ghost use Rattle.refusals.specs.Outcome.{numbers_of};
 ghost use Rattle.soak.specs.Calls.{amount_of, lent_of, room_of, call_of, plain_of, changed_of, grant_refusal, read_refusal, refusal_of, is_grant};
 
 use decoder::Decode;
 use ldpc::Code;
-use refusals::Refusal;
+use refusals::{Numbers, Refusal};
 
 // A call of a list. It is lent so many numbers of work memory, and may get a changed record.
 #[derive(Clone, Copy, Debug, PartialEq, Eq)]
@@ -115,6 +116,25 @@ impl Call {
                 changed,
             } => read_refusal(d, room, lent, changed),
         }
+    }
+}
+
+// The number and the pair that a refusal of a list is to tell. They are written out here, since `Refusal::numbers` is compiled code, which
+// the soak holds to them. No other refusal is wanted of a list.
+pub fn told(r: Refusal) -> Numbers
+    ensures { result ≡ numbers_of r }
+{
+    let (number, first, second) = match r {
+        Refusal::Work { given, needed } => (8, given, needed),
+        Refusal::Output { given, wanted } => (9, given, wanted),
+        Refusal::Iterations(sum) => (10, sum, 65535),
+        Refusal::Record { rate, n_tx } => (11, rate, n_tx),
+        _ => return r.numbers(),
+    };
+    Numbers {
+        number,
+        first,
+        second,
     }
 }
 

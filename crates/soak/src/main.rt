@@ -13,7 +13,7 @@ mod tally;
 
 ghost use Rattle.std.specs.Prelude.{◌<◌};
 
-use calls::{Call, changed_of};
+use calls::{Call, changed_of, told};
 use compare::apart;
 use decoder::{Decode, DecodeResult};
 use ldpc::Code;
@@ -108,8 +108,9 @@ impl<'a> List<'a> {
         if answer.is_err() {
             self.totals.count_refusal();
         }
+        let numbers = answer.err().map(|r| r.numbers());
         self.totals
-            .count_differences(usize::from(answer.err() != wanted));
+            .count_differences(usize::from(numbers != wanted.map(|r| told(r))));
         answer.is_err()
     }
 
