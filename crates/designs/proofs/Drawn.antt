@@ -9,7 +9,7 @@ use Rattle.graph.specs.Calls.{columns_told}
 pub square : (p : ℕ) → p < 200 → p * p ≤ 39601
 square p h = let k : p ≤ 199 = omega (arith, h) in mul-le-mul k k
 
--- the rows are below m, and the shifts below 65,536, so that a cast keeps them whole
+-- the rows are below m, and the shifts below 65,536
 some_row_lt : (m seed c : ℕ) → 3 ≤ m → some_row m seed c < m
 unfolding some_row
 some_row_lt m seed c h = mod-lt (seed + c * c * 7 + c) (omega (arith, h))

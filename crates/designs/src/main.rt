@@ -22,6 +22,7 @@ const MOST: usize = 183;
 #[tactic(auto, using(crate::proofs::Drawn::few))]
 fn print_shape(rt: &impl Print, n_b: usize, percent: usize, seed: u64) -> Result<()> {
     let k_b = graph::information_columns(n_b, percent)?;
+    // by `min`, since the check does not see by itself that k_b is at most 61 where the arrays are lent
     let n = (3 * k_b).min(MOST);
     let mut rows = [0; MOST];
     let mut shifts = [0; MOST];
